@@ -1,0 +1,5 @@
+pub mod Causes
+pub mod Interval
+pub mod Prefix
+pub mod Text
+pub mod TextRefused

@@ -1,0 +1,18 @@
+//! Values that every layer names: short printable texts, identifiers, times, lists that contracts
+//! see as lists, sampling intervals, and want of memory.
+#![tactic(auto)]
+
+mod ids;
+mod interval;
+mod memory;
+mod sequence;
+mod text;
+
+pub use ids::{FuncId, Micros, SessionId};
+pub use interval::{MAX_INTERVAL, MAX_ROUNDED, gcd, rounded, source_interval};
+pub use memory::Memory;
+pub use sequence::Sequence;
+pub use text::{Text, TextRefused};
+
+#[cfg(test)]
+mod tests;

@@ -1,0 +1,98 @@
+// Short printable texts.
+ghost use Rattle.std.specs.Prelude.{◌≡◌, ◌↔◌, IsTrue, IfOk, OnOk, IfErr, IfNone, position, not, bytes_eq};
+ghost use Rattle.std.specs.List.{AllPass};
+ghost use Rattle.prof_base.specs.Text.{IsText, is_printable};
+ghost use Rattle.prof_base.specs.TextRefused.{IsRefusedAs};
+
+use crate::memory::Memory;
+use std::alloc::Global;
+use std::marker::Model;
+
+/// Why bytes were not taken as a [`Text`].
+#[derive(Clone, Copy, Debug, PartialEq, Eq)]
+pub enum TextRefused {
+    /// There are more than 200 bytes.
+    TooLong,
+    /// There are at most 200 bytes, and the one at `at`, counted from 0, is the first that is not
+    /// printable ASCII.
+    NotPrintable { at: usize },
+    /// Memory was refused.
+    Memory,
+}
+
+/// 0 to 200 bytes, each from 0x20 to 0x7E.
+#[derive(Debug, Drop)]
+pub struct Text {
+    bytes: Vec<u8>,
+}
+
+impl Model for Text {
+    ghost use Rattle.std.specs.Prelude.{List, ℕ};
+    ghost use Rattle.prof_base.specs.Text.{IsText};
+
+    ghost Value = { List ℕ };
+
+    ghost view = { λ t. t.bytes.items };
+
+    ghost invariant = { λ t. IsText t.bytes.items };
+}
+
+fn is_printable(byte: u8) -> bool
+    ensures { result ≡ is_printable byte }
+{
+    byte >= 0x20 && byte <= 0x7E
+}
+
+fn first_unprintable(bytes: &[u8]) -> Option<usize>
+    ensures place { result ≡ position (λ b. not (is_printable b)) bytes.now }
+    ensures none { IfNone result (AllPass is_printable bytes.now) }
+{
+    bytes.iter().position(|byte| !is_printable(*byte))
+}
+
+impl Text {
+    /// The greatest number of bytes.
+    pub const MAX_LEN: usize = 200;
+
+    /// The text of these bytes.
+    pub fn new(alloc: Global, bytes: &[u8]) -> Result<Text, TextRefused>
+        ensures ok { IfOk result (λ text. text ≡ bytes.now) }
+        ensures is_text { OnOk result (IsText bytes.now) }
+        ensures refused { IfErr result (λ refusal. IsRefusedAs bytes.now refusal) }
+    {
+        if bytes.len() > Text::MAX_LEN {
+            return Err(TextRefused::TooLong);
+        }
+        if let Some(at) = first_unprintable(bytes) {
+            return Err(TextRefused::NotPrintable { at });
+        }
+        match bytes.to_vec(alloc) {
+            Ok(bytes) => Ok(Text { bytes }),
+            Err(_) => Err(TextRefused::Memory),
+        }
+    }
+
+    /// A text with the same bytes.
+    pub fn copy(&self, alloc: Global) -> Result<Text, Memory>
+        ensures { IfOk result (λ text. text ≡ self.now) }
+    {
+        let bytes = self.bytes.to_vec(alloc)?;
+        Ok(Text { bytes })
+    }
+
+    /// The bytes of the text.
+    pub fn bytes(&self) -> &[u8]
+        ensures bytes { result.now ≡ self.now }
+        ensures is_text { IsText self.now }
+    {
+        &self.bytes
+    }
+
+    /// Whether the other text has the same bytes.
+    pub fn same(&self, other: &Text) -> bool
+        ensures same { IsTrue result ↔ (self.now ≡ other.now) }
+        ensures bytes { result ≡ bytes_eq self.now other.now }
+    {
+        self.bytes() == other.bytes()
+    }
+}
