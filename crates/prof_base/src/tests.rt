@@ -13,6 +13,7 @@ fn a_text_is_up_to_200_printable_bytes(rt: HostRuntime) -> Result<(), Fail> {
         assert_eq!(rt; text.bytes(), bytes);
         let copy = text.copy(alloc)?;
         assert!(rt; text.same(&copy));
+        assert_eq!(rt; text.as_str().as_bytes(), bytes);
     }
     for (bytes, refusal) in [
         (long.as_slice(), TextRefused::TooLong),

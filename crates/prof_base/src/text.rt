@@ -7,6 +7,7 @@ ghost use Rattle.prof_base.specs.TextRefused.{IsRefusedAs};
 use crate::memory::Memory;
 use std::alloc::Global;
 use std::marker::Model;
+use std::str;
 
 /// Why bytes were not taken as a [`Text`].
 #[derive(Clone, Copy, Debug, PartialEq, Eq)]
@@ -86,6 +87,16 @@ impl Text {
         ensures is_text { IsText self.now }
     {
         &self.bytes
+    }
+
+    /// The text as a `str`: printable ASCII is UTF-8 (RFC 3629).
+    pub fn as_str(&self) -> &str
+        ensures { result.now ≡ self.now }
+    {
+        match str::from_utf8(&self.bytes) {
+            Ok(text) => text,
+            Err(_) => unreachable!(),
+        }
     }
 
     /// Whether the other text has the same bytes.
