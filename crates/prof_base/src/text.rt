@@ -1,5 +1,5 @@
 // Short printable texts.
-ghost use Rattle.std.specs.Prelude.{◌≡◌, ◌↔◌, IsTrue, IfOk, OnOk, IfErr, IfNone, position, not, bytes_eq};
+ghost use Rattle.std.specs.Prelude.{◌≡◌, ◌≢◌, ◌↔◌, IsTrue, IfOk, OnOk, IfErr, IfNone, OnSome, position, not, bytes_eq};
 ghost use Rattle.std.specs.List.{AllPass};
 ghost use Rattle.prof_base.specs.Text.{IsText, is_printable};
 ghost use Rattle.prof_base.specs.TextRefused.{IsRefusedAs};
@@ -47,6 +47,7 @@ fn is_printable(byte: u8) -> bool
 fn first_unprintable(bytes: &[u8]) -> Option<usize>
     ensures place { result ≡ position (λ b. not (is_printable b)) bytes.now }
     ensures none { IfNone result (AllPass is_printable bytes.now) }
+    ensures some { OnSome result (¬ AllPass is_printable bytes.now) }
 {
     bytes.iter().position(|byte| !is_printable(*byte))
 }
@@ -60,6 +61,7 @@ impl Text {
         ensures ok { IfOk result (λ text. text ≡ bytes.now) }
         ensures is_text { OnOk result (IsText bytes.now) }
         ensures refused { IfErr result (λ refusal. IsRefusedAs bytes.now refusal) }
+        ensures not_text { IfErr result (λ refusal. refusal ≢ TextRefused.Memory → ¬ IsText bytes.now) }
     {
         if bytes.len() > Text::MAX_LEN {
             return Err(TextRefused::TooLong);

@@ -1,0 +1,116 @@
+// The depot and the sink that the program itself uses.
+ghost use Rattle.std.specs.Prelude.{◌≡◌, None};
+
+use crate::depot::{Depot, GetFault};
+use crate::sink::{Sink, SinkFault};
+use prof_base::Text;
+use std::alloc::Global;
+use std::io::{ErrorKind, Read, Write};
+use std::rt::Files;
+use std::{fs, io};
+
+/// The greatest file that a [`Folder`] reads, in bytes.
+pub const MAX_FILE: usize = 268_435_456;
+
+/// The files of the folder in which the program runs. A file of more than [`MAX_FILE`] bytes is a
+/// read fault.
+#[derive(Drop)]
+pub struct Folder<R: Files + Drop> {
+    rt: R,
+    missed: u64,
+    failed: u64,
+}
+
+impl<R: Files + Drop> Folder<R> {
+    /// The current folder. It opens nothing and takes no memory.
+    pub fn new(rt: R) -> Folder<R>
+        ensures held { ⟦<Folder<R> as Depot>⟧.held result ≡ None }
+        ensures misses { ⟦<Folder<R> as Depot>⟧.misses result ≡ 0 }
+        ensures read_faults { ⟦<Folder<R> as Depot>⟧.read_faults result ≡ 0 }
+    {
+        Folder {
+            rt,
+            missed: 0,
+            failed: 0,
+        }
+    }
+}
+
+fn fault_of(error: &io::Error) -> GetFault {
+    match error.kind() {
+        ErrorKind::NotFound => GetFault::Missing,
+        ErrorKind::OutOfMemory => GetFault::Memory,
+        _ => GetFault::Failed,
+    }
+}
+
+// One byte past the limit is asked for, since a device may say that it is empty and give bytes
+// without end.
+fn read_file<R: Files>(rt: &R, alloc: Global, path: &str) -> Result<Vec<u8>, GetFault> {
+    let file = match fs::open(rt, path) {
+        Ok(file) => file,
+        Err(error) => return Err(fault_of(&error)),
+    };
+    let mut bytes = Vec::new(alloc);
+    match file.take(MAX_FILE as u64 + 1).read_to_end(&mut bytes) {
+        Ok(_) if bytes.len() <= MAX_FILE => Ok(bytes),
+        Ok(_) => Err(GetFault::Failed),
+        Err(error) => Err(fault_of(&error)),
+    }
+}
+
+impl<R: Files + Drop> Depot for Folder<R> {
+    ghost held = { λ _. None };
+
+    ghost misses = { λ d. d.missed };
+
+    ghost read_faults = { λ d. d.failed };
+
+    fn get(&mut self, alloc: Global, name: &Text) -> Result<Vec<u8>, GetFault> {
+        let read = read_file(&self.rt, alloc, name.as_str());
+        match read {
+            Err(GetFault::Missing) => self.missed = self.missed.saturating_add(1),
+            Err(GetFault::Failed) => self.failed = self.failed.saturating_add(1),
+            _ => {}
+        }
+        read
+    }
+}
+
+/// A sink over a writer, such as standard output. Each write is flushed.
+#[derive(Drop)]
+pub struct WriterSink<W: Write + Drop> {
+    writer: W,
+    failed: u64,
+}
+
+impl<W: Write + Drop> WriterSink<W> {
+    /// A sink over this writer. It writes nothing and takes no memory.
+    pub fn new(writer: W) -> WriterSink<W>
+        ensures written { ⟦<WriterSink<W> as Sink>⟧.written result ≡ None }
+        ensures faults { ⟦<WriterSink<W> as Sink>⟧.faults result ≡ 0 }
+    {
+        WriterSink { writer, failed: 0 }
+    }
+}
+
+fn write_and_flush<W: Write>(writer: &mut W, bytes: &[u8]) -> io::Result<()> {
+    writer.write_all(bytes)?;
+    writer.flush()
+}
+
+impl<W: Write + Drop> Sink for WriterSink<W> {
+    ghost written = { λ _. None };
+
+    ghost faults = { λ s. s.failed };
+
+    fn write_all(&mut self, _alloc: Global, bytes: &[u8]) -> Result<(), SinkFault> {
+        match write_and_flush(&mut self.writer, bytes) {
+            Ok(()) => Ok(()),
+            Err(_) => {
+                self.failed = self.failed.saturating_add(1);
+                Err(SinkFault::Failed)
+            }
+        }
+    }
+}
