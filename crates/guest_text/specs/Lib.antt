@@ -1,0 +1,4 @@
+pub mod Program
+pub mod ProgramText
+pub mod Reading
+pub mod Straight

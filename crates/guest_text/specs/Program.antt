@@ -1,0 +1,105 @@
+-- Guest programs, and the rules that they keep.
+use Rattle.std.specs.Prelude.{◌≡◌, ◌≢◌, ℕ, ◌<◌, ◌≤◌, ◌^◌, List, [], ◌∷◌, length, map, Bool, true, false, ◌&&◌, ◌||◌, ◌==◌, nat_le, Option, Some, None, codes}
+use Rattle.std.specs.List.{slice_get, list_all, AllByRecursion}
+use Rattle.prof_base.specs.Text.{IsText}
+use Rattle.guest_text.specs.declared.instr.Op.{Op}
+use Rattle.guest_text.specs.declared.instr.Op.TheVariants.{Set, Add, Sub, Mul, Lt, Jump, Jz, Call, Ret, Print, Halt, Opt, Deopt, NoOpt, Drop, Gc, Idle, Native, Collect}
+use Rattle.guest_text.specs.declared.instr.Instr.{Instr}
+use Rattle.guest_text.specs.declared.instr.Func.{Func}
+
+-- `a` to `z`
+abbrev pub is_letter : ℕ → Bool
+is_letter b = nat_le 97 b && nat_le b 122
+
+-- a letter, `0` to `9` or `_`
+abbrev pub is_label_byte : ℕ → Bool
+is_label_byte b = is_letter b || (nat_le 48 b && nat_le b 57) || b == 95
+
+-- the first byte is there and is a letter
+abbrev pub begins_with_letter : List ℕ → Bool
+begins_with_letter [] = false
+begins_with_letter (b ∷ bytes) = is_letter b
+
+-- a letter, then at most 31 letters, digits and `_`
+pub record IsLabel (label : List ℕ) : Type 0 where
+  pub begins : begins_with_letter label ≡ true
+  pub bytes : list_all is_label_byte label ≡ true
+  pub short : length label ≤ 32
+
+-- the number of a line or a column, or a count of steps
+abbrev pub IsUpToMillion : ℕ → Type 0
+IsUpToMillion n = (1 ≤ n) × (n ≤ 1000000)
+
+-- a place in a body with so many instructions
+abbrev pub IsTarget : ℕ → ℕ → Type 0
+IsTarget size place = (place < size) × (place ≤ 4095)
+
+-- an operation that fits into a body of so many instructions, in a program of so many functions
+abbrev pub IsOp : ℕ → ℕ → Op → Type 0
+IsOp funcs size (Set reg number) = (reg ≤ 7) × (number < 2 ^ 64)
+IsOp funcs size (Add to from) = (to ≤ 7) × (from ≤ 7)
+IsOp funcs size (Sub to from) = (to ≤ 7) × (from ≤ 7)
+IsOp funcs size (Mul to from) = (to ≤ 7) × (from ≤ 7)
+IsOp funcs size (Lt to from) = (to ≤ 7) × (from ≤ 7)
+IsOp funcs size (Jump place) = IsTarget size place
+IsOp funcs size (Jz reg place) = (reg ≤ 7) × IsTarget size place
+IsOp funcs size (Call func) = func.0 < funcs
+IsOp funcs size Ret = Unit {0}
+IsOp funcs size (Print reg) = reg ≤ 7
+IsOp funcs size Halt = Unit {0}
+IsOp funcs size (Opt func) = func.0 < funcs
+IsOp funcs size (Deopt func reason) = (func.0 < funcs) × IsText reason
+IsOp funcs size (NoOpt func reason) = (func.0 < funcs) × IsText reason
+IsOp funcs size (Drop func) = func.0 < funcs
+IsOp funcs size Gc = Unit {0}
+IsOp funcs size (Idle steps) = IsUpToMillion steps
+IsOp funcs size (Native steps) = IsUpToMillion steps
+IsOp funcs size (Collect steps) = IsUpToMillion steps
+
+-- an instruction that fits there
+pub record IsInstr (funcs size : ℕ) (instr : Instr) : Type 0 where
+  pub line : IsUpToMillion instr.line
+  pub op : IsOp funcs size instr.op
+
+-- a function that fits into a program of so many functions
+pub record IsFunc (funcs : ℕ) (func : Func) : Type 0 where
+  pub label : IsLabel func.label
+  pub name : IsText func.name
+  pub url : IsText func.url
+  pub script : func.script < 2 ^ 32
+  pub line : IsUpToMillion func.line
+  pub column : IsUpToMillion func.column
+  pub not_empty : 1 ≤ length func.body
+  pub short : length func.body ≤ 4096
+  pub body : AllByRecursion (IsInstr funcs (length func.body)) func.body
+
+-- no two of these are the same
+abbrev pub AllDiffer : {A : Type 0} → List A → Type 0
+AllDiffer [] = Unit {0}
+AllDiffer (x ∷ xs) = AllByRecursion (λ y. x ≢ y) xs × AllDiffer xs
+
+-- where a function stands in its source, with its name
+abbrev pub entry : Func → List ℕ × List ℕ × ℕ × ℕ × ℕ
+entry func = (func.name, func.url, func.script, func.line, func.column)
+
+-- the label of a function that may be missing
+abbrev pub label_of : Option Func → List ℕ
+label_of None = []
+label_of (Some func) = func.label
+
+-- the label of the function with this number, and no bytes where there is none
+abbrev pub label_at : List Func → ℕ → List ℕ
+label_at funcs number = label_of (slice_get funcs number)
+
+-- the function with this number is the one where a program begins
+abbrev pub IsMain : List Func → ℕ → Type 0
+IsMain funcs number = label_at funcs number ≡ codes "main"
+
+-- the rules that a program keeps
+pub record IsProgram (funcs : List Func) : Type 0 where
+  pub not_empty : 1 ≤ length funcs
+  pub few : length funcs ≤ 256
+  pub each : AllByRecursion (IsFunc (length funcs)) funcs
+  pub labels : AllDiffer (map (λ func. func.label) funcs)
+  pub entries : AllDiffer (map entry funcs)
+  pub main : (number : ℕ) × IsMain funcs number

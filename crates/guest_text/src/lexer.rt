@@ -1,0 +1,142 @@
+// Parts of a line, from left to right.
+ghost use Rattle.std.specs.Prelude.{◌≡◌, ◌≤◌, ◌<◌, ◌^◌, ◌+◌, ◌-◌, ◌*◌, IfOk, IfSome, IfNone, codes, option_map, false};
+ghost use Rattle.prof_base.specs.Text.{IsText};
+ghost use Rattle.guest_text.specs.Reading.{Gives, behind, is_digit, digits_from, number_at, unquoted, checked_text, text_at, quoted_at, word_at};
+
+use crate::refused::LineFault;
+use prof_base::{Text, TextRefused};
+use std::alloc::Global;
+
+// The bytes behind `lead`, where the bytes begin with it.
+#[tactic(auto, unfolding(crate::specs::Reading::behind))]
+pub(crate) fn behind<'a>(lead: &[u8], bytes: &'a [u8]) -> Option<&'a [u8]>
+    ensures { option_map (λ rest. rest.now) result ≡ behind lead.now bytes.now }
+{
+    if lead.len() <= bytes.len() && &bytes[..lead.len()] == lead {
+        Some(&bytes[lead.len()..])
+    } else {
+        None
+    }
+}
+
+fn is_digit(byte: u8) -> bool
+    ensures { result ≡ is_digit byte }
+{
+    byte >= b'0' && byte <= b'9'
+}
+
+// The value of digits with one more behind them.
+fn one_more(value: u64, digit: u8) -> Option<u64>
+    ensures some { IfSome result (λ n. n ≡ 10 * value + (digit - 48)) }
+    ensures none { IfNone result (2 ^ 64 ≤ 10 * value + (digit - 48)) }
+{
+    value
+        .checked_mul(10)?
+        .checked_add(u64::from(digit.saturating_sub(b'0')))
+}
+
+// The value of the digits in front, where a u64 has it, and the bytes behind them.
+fn digits(bytes: &[u8]) -> Option<(u64, &[u8])>
+    ensures some { IfSome result (λ x. digits_from 0 bytes.now ≡ (x.0, x.1.now)) }
+    ensures none { IfNone result (2 ^ 64 ≤ (digits_from 0 bytes.now).0) }
+{
+    let mut value = 0u64;
+    let mut rest = bytes;
+    while let [byte, after @ ..] = rest {
+        if !is_digit(*byte) {
+            break;
+        }
+        value = one_more(value, *byte)?;
+        rest = after;
+    }
+    Some((value, rest))
+}
+
+// The number in front, where it is in the range, and the bytes behind it.
+#[tactic(auto, unfolding(crate::specs::Reading::number_at))]
+pub(crate) fn number(bytes: &[u8], least: u64, most: u64) -> Option<(u64, &[u8])>
+    ensures number { option_map (λ x. (x.0, x.1.now)) result ≡ number_at least most bytes.now }
+    ensures least { IfSome result (λ x. least ≤ x.0) }
+    ensures most { IfSome result (λ x. x.0 ≤ most) }
+{
+    let (value, rest) = digits(bytes)?;
+    if least <= value && value <= most {
+        Some((value, rest))
+    } else {
+        None
+    }
+}
+
+// A number behind a space.
+#[tactic(auto, unfolding(crate::specs::Reading::word_at))]
+pub(crate) fn number_word(bytes: &[u8], least: u64, most: u64) -> Option<(u64, &[u8])>
+    ensures number { option_map (λ x. (x.0, x.1.now)) result ≡ word_at least most bytes.now }
+    ensures least { IfSome result (λ x. least ≤ x.0) }
+    ensures most { IfSome result (λ x. x.0 ≤ most) }
+{
+    let rest = behind(b" ", bytes)?;
+    number(rest, least, most)
+}
+
+// The bytes meant up to the closing `"`, and the bytes behind it.
+fn unquoted(alloc: Global, bytes: &[u8]) -> Result<(Vec<u8>, &[u8]), LineFault>
+    ensures { Gives (λ x. (x.0.items, x.1.now)) result (unquoted false bytes.now) }
+{
+    let mut text = Vec::new(alloc);
+    let mut meant = false;
+    let mut rest = bytes;
+    while let [byte, after @ ..] = rest {
+        rest = after;
+        if meant {
+            text.push(*byte)?;
+            meant = false;
+        } else if *byte == b'"' {
+            return Ok((text, rest));
+        } else if *byte == b'\\' {
+            meant = true;
+        } else {
+            text.push(*byte)?;
+        }
+    }
+    Err(LineFault::Word)
+}
+
+#[tactic(auto, unfolding(crate::specs::Reading::checked_text))]
+fn checked_text(alloc: Global, bytes: &[u8]) -> Result<Text, LineFault>
+    ensures text { Gives (λ text. text) result (checked_text bytes.now) }
+    ensures is_text { IfOk result (λ text. IsText text) }
+{
+    match Text::new(alloc, bytes) {
+        Ok(text) => Ok(text),
+        Err(TextRefused::TooLong) => Err(LineFault::Word),
+        Err(TextRefused::NotPrintable { at: _ }) => Err(LineFault::Word),
+        Err(TextRefused::Memory) => Err(LineFault::Memory),
+    }
+}
+
+// The text up to its closing `"`, and the bytes behind that.
+#[tactic(auto, unfolding(crate::specs::Reading::text_at))]
+fn text(alloc: Global, bytes: &[u8]) -> Result<(Text, &[u8]), LineFault>
+    ensures text { Gives (λ x. (x.0, x.1.now)) result (text_at bytes.now) }
+    ensures is_text { IfOk result (λ x. IsText x.0) }
+{
+    let (raw, rest) = unquoted(alloc, bytes)?;
+    let text = checked_text(alloc, raw.as_slice())?;
+    Ok((text, rest))
+}
+
+// A text in quotes, behind these bytes, of which the last is its first `"`.
+#[tactic(auto, unfolding(crate::specs::Reading::quoted_at))]
+pub(crate) fn quoted<'a>(
+    alloc: Global,
+    lead: &[u8],
+    bytes: &'a [u8],
+) -> Result<(Text, &'a [u8]), LineFault>
+    ensures text { Gives (λ x. (x.0, x.1.now)) result (quoted_at lead.now bytes.now) }
+    ensures is_text { IfOk result (λ x. IsText x.0) }
+{
+    match behind(lead, bytes) {
+        Some(rest) => text(alloc, rest),
+        None => Err(LineFault::Word),
+    }
+}

@@ -1,0 +1,93 @@
+// The stream that the program itself uses.
+ghost use Rattle.std.specs.Prelude.{◌≡◌, None};
+
+use crate::stream::{Chunk, OutputStream};
+use std::alloc::Global;
+use std::fs;
+use std::io::Write;
+use std::rt::Files;
+
+/// The size of a chunk, in bytes.
+const CHUNK: u32 = 65_536;
+
+/// Writes each part to a file of its own in the folder in which the program runs: part K of stream I
+/// to `cpuprof-I-K.cpuprofile`, K from 1. A file of that name is written over.
+#[derive(Drop)]
+pub struct FileStream<R: Files + Drop> {
+    rt: R,
+    number: u8,
+    part: u64,
+    file: Option<R::File>,
+    failed: u64,
+}
+
+impl<R: Files + Drop> FileStream<R> {
+    /// The stream with this number. It opens nothing and takes no memory.
+    pub fn new(rt: R, number: u8) -> FileStream<R>
+        ensures parts { ⟦<FileStream<R> as OutputStream>⟧.parts result ≡ None }
+        ensures aborts { ⟦<FileStream<R> as OutputStream>⟧.aborts result ≡ 0 }
+        ensures faults { ⟦<FileStream<R> as OutputStream>⟧.stream_faults result ≡ 0 }
+        ensures size { ⟦<FileStream<R> as OutputStream>⟧.chunk_bytes result ≡ 65536 }
+    {
+        FileStream {
+            rt,
+            number,
+            part: 1,
+            file: None,
+            failed: 0,
+        }
+    }
+}
+
+fn create_part<R: Files>(rt: &R, alloc: Global, number: u8, part: u64) -> Result<R::File, Chunk> {
+    let Ok(path) = format!(in alloc; "cpuprof-{number}-{part}.cpuprofile") else {
+        return Err(Chunk::Memory);
+    };
+    match fs::create(rt, path.as_str()) {
+        Ok(file) => Ok(file),
+        Err(_) => Err(Chunk::Failed),
+    }
+}
+
+impl<R: Files + Drop> OutputStream for FileStream<R> {
+    ghost parts = { λ _. None };
+
+    ghost aborts = { λ _. 0 };
+
+    ghost stream_faults = { λ s. s.failed };
+
+    ghost chunk_bytes = { λ _. 65536 };
+
+    fn chunk_size(&self) -> u32 {
+        CHUNK
+    }
+
+    fn write_chunk(&mut self, alloc: Global, chunk: &[u8]) -> Chunk {
+        let file = match self.file.take() {
+            Some(file) => Ok(file),
+            None => create_part(&self.rt, alloc, self.number, self.part),
+        };
+        let answer = match file {
+            Ok(mut file) => {
+                let written = file.write_all(chunk);
+                self.file = Some(file);
+                if written.is_ok() {
+                    Chunk::Continue
+                } else {
+                    Chunk::Failed
+                }
+            }
+            Err(Chunk::Memory) => Chunk::Memory,
+            Err(_) => Chunk::Failed,
+        };
+        if answer == Chunk::Failed {
+            self.failed = self.failed.saturating_add(1);
+        }
+        answer
+    }
+
+    fn end_of_stream(&mut self) {
+        self.file = None;
+        self.part = self.part.saturating_add(1);
+    }
+}

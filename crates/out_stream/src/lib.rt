@@ -1,0 +1,19 @@
+//! The stream that finished files go to, part by part, each part in chunks; and the delivery of a
+//! file to it.
+//!
+//! A stream answers Abort or Failed only where its own count of these rose in the call. What a
+//! stream holds is optional in contracts: the real one does not tell it.
+#![tactic(auto)]
+
+mod boxed;
+mod delivery;
+mod file;
+mod memory;
+mod stream;
+#[cfg(test)]
+mod tests;
+
+pub use delivery::deliver;
+pub use file::FileStream;
+pub use memory::{MemoryStream, SureStream};
+pub use stream::{Chunk, OutputStream, Undelivered};
