@@ -1,15 +1,14 @@
 -- What was written is read again.
-use Rattle.std.proofs.Common.{◌≡◌, ◌∙◌, ℕ, zero, suc, ◌+◌, ◌-◌, ◌*◌, ◌^◌, ◌≤◌, ◌<◌, List, [], ◌∷◌, ◌++◌, length, take, drop, flat_map, Option, Some, None, Bool, true, false, cond, ◌&&◌, ◌||◌, ◌==◌, nat_le, inl, inr, refl, sym, ap, subst, append_assoc, append-nil, length-append, arith, rules, codes, decimal, bytes_eq}
-use Rattle.std.specs.List.{list_all, AllByRecursion}
+use Rattle.std.proofs.Common.{◌≡◌, ◌∙◌, ℕ, zero, suc, ◌+◌, ◌-◌, ◌*◌, ◌^◌, ◌≤◌, ◌<◌, List, [], ◌∷◌, ◌++◌, length, take, Some, None, Bool, true, false, cond, ◌&&◌, ◌||◌, ◌==◌, nat_le, get_or, refl, ap, append_assoc, length-append, arith, rules, codes, decimal, bytes_eq}
+use Rattle.std.specs.List.{list_all}
 use Rattle.std.proofs.lemmas.List.{take_at, drop_at}
-use Rattle.std.proofs.lemmas.Bool.{cases_Bool}
 use Rattle.std.proofs.lemmas.Bool.Decides.{nat_tests}
 use Rattle.std.proofs.lemmas.Slice.Eq.{bytes_eq-Decides}
 use Rattle.std.proofs.lemmas.Str.Parse.{IsNumeralModel, numerals_by_fold}
-use Rattle.std.proofs.lemmas.Fmt.{digits_decimal, digits_value-decimal, decimal_nonempty}
+use Rattle.std.proofs.lemmas.Fmt.{digits_decimal, digits_value-decimal, decimal_digit, first_decimal}
 use Rattle.prof_base.specs.Text.{IsText}
 use Rattle.guest_text.specs.ProgramText.{escaped, escaped_byte}
-use Rattle.guest_text.specs.Reading.{Front, ◌>>=◌, behind, is_digit, digits_from, number_at, onto_text, unquoted, checked_text, text_at, quoted_at, word_at, places_at}
+use Rattle.guest_text.specs.Reading.{behind, is_digit, digits_from, begins_with_digit, begins_with_number, number_at, onto_text, unquoted, text_at, quoted_at, word_at, places_at}
 use Rattle.guest_text.proofs.Readers.{within, text_is_taken}
 
 longer : (lead rest : List ℕ) → nat_le (length lead) (length (lead ++ rest)) ≡ true
@@ -38,8 +37,7 @@ own = numerals_by_fold _ (search rules) value_from (search rules)
 
 -- no digit follows
 abbrev pub Stops : List ℕ → Type 0
-Stops [] = Unit {0}
-Stops (b ∷ bytes) = is_digit b ≡ false
+Stops bytes = begins_with_digit bytes ≡ false
 
 and_true : (x y : Bool) → (x && y) ≡ true → (x ≡ true) × (y ≡ true)
 and_true true y h = (refl, h)
@@ -55,9 +53,21 @@ digits_again n (b ∷ digits) rest h s =
 decimal_again : (n : ℕ) (rest : List ℕ) → n < 2 ^ 64 → Stops rest → digits_from 0 (decimal n ++ rest) ≡ (n, rest)
 decimal_again n rest h s = digits_again 0 (decimal n) rest (digits_decimal own n h) s ∙ ap (λ (m : ℕ). (m, rest)) (digits_value-decimal own n h)
 
+not_zero : (b : ℕ) → 48 < b → (b == 48) ≡ false
+not_zero b h = grind (arith, nat_tests)
+
+number_begins : (digits rest : List ℕ) → list_all is_digit digits ≡ true → 48 < get_or digits 0 0 → begins_with_number (digits ++ rest) ≡ true
+number_begins [] rest h lead = absurd (omega arith)
+number_begins (b ∷ digits) rest h lead = rw ((and_true (is_digit b) (list_all is_digit digits) h).0, not_zero b lead) refl
+
+-- no zero stands in front, or it is alone
+decimal_begins : (n : ℕ) (rest : List ℕ) → n < 2 ^ 64 → Stops rest → begins_with_number (decimal n ++ rest) ≡ true
+decimal_begins zero rest h s = rw (decimal_digit 0 (omega arith), s) refl
+decimal_begins (suc n) rest h s = number_begins (decimal (suc n)) rest (digits_decimal own (suc n) h) (first_decimal (suc n) (omega arith) h)
+
 pub number_again : (least most n : ℕ) (rest : List ℕ) → least ≤ n → n ≤ most → n < 2 ^ 64 → Stops rest → number_at least most (decimal n ++ rest) ≡ Some (n, rest)
 unfolding number_at
-number_again least most n rest low high h s = rw (decimal_again n rest h s, within least n low, within n most high) refl
+number_again least most n rest low high h s = rw (decimal_begins n rest h s, decimal_again n rest h s, within least n low, within n most high) refl
 
 pub word_again : (least most n : ℕ) (rest : List ℕ) → least ≤ n → n ≤ most → n < 2 ^ 64 → Stops rest → word_at least most (32 ∷ (decimal n ++ rest)) ≡ Some (n, rest)
 unfolding word_at
@@ -67,8 +77,8 @@ unquoted_plain : (b : ℕ) (bytes : List ℕ) → (b == 34) ≡ false → (b == 
 unquoted_plain b bytes p q = rw (p, q) refl
 
 unquoted_by : (b : ℕ) (bytes : List ℕ) (p q : Bool) → (b == 34) ≡ p → (b == 92) ≡ q → unquoted false (cond (p || q) (92 ∷ b ∷ []) (b ∷ []) ++ bytes) ≡ onto_text b (unquoted false bytes)
-unquoted_by b bytes true q e f = refl
-unquoted_by b bytes false true e f = refl
+unquoted_by b bytes true q e f = rw e refl
+unquoted_by b bytes false true e f = rw (e, f) refl
 unquoted_by b bytes false false e f = unquoted_plain b bytes e f
 
 unquoted_again : (text rest : List ℕ) → unquoted false (escaped text ++ 34 ∷ rest) ≡ Some (text, rest)

@@ -1,13 +1,13 @@
 -- A function that was read can stand alone.
-use Rattle.std.proofs.Common.{◌≡◌, ℕ, ◌≤◌, ◌<◌, List, [], ◌∷◌, length, true, refl, codes, arith, lit≤}
+use Rattle.std.proofs.Common.{◌≡◌, ℕ, ◌≤◌, List, [], ◌∷◌, length, true, refl, codes, arith, lit≤}
 use Rattle.std.specs.List.{AllByRecursion}
 use Rattle.guest_text.specs.declared.instr.Op.{Op}
 use Rattle.guest_text.specs.declared.instr.Op.TheVariants.{Set, Halt}
 use Rattle.guest_text.specs.declared.instr.Instr.{Instr}
 use Rattle.guest_text.specs.declared.instr.Func.{Func}
 use Rattle.guest_text.specs.declared.line.Head.{Head}
-use Rattle.guest_text.specs.Program.{IsOp, IsInstr, IsFunc, IsLabel, IsProgram}
-use Rattle.guest_text.specs.Straight.{IsSetOrHalt, ends_in_halt, IsStraight}
+use Rattle.guest_text.specs.Program.{IsOp, IsInstr, IsLabel, IsProgram}
+use Rattle.guest_text.specs.Straight.{IsSetOrHalt, ends_in_halt}
 use Rattle.guest_text.specs.Reading.{func_of, IsHead, IsReadOp, IsReadInstr, IsLone}
 
 op_fits : (funcs size : ℕ) (op : Op) → IsReadOp op → IsOp funcs size op

@@ -1,5 +1,5 @@
 -- Reading, as the code does it.
-use Rattle.std.proofs.Common.{◌≡◌, ◌∙◌, ℕ, suc, ◌+◌, ◌-◌, ◌*◌, ◌^◌, ◌≤◌, ◌<◌, List, [], ◌∷◌, ◌++◌, length, get_or, Option, Some, None, Bool, true, false, cond, not, ◌&&◌, ◌==◌, nat_le, bytes_eq, position, refl, sym, ap, subst, append_assoc, append-nil, arith}
+use Rattle.std.proofs.Common.{◌≡◌, ℕ, ◌+◌, ◌-◌, ◌*◌, ◌≤◌, ◌<◌, List, [], ◌∷◌, ◌++◌, length, get_or, Option, Some, None, Bool, true, false, cond, not, ◌&&◌, nat_le, bytes_eq, position, refl, sym, ap, append_assoc, arith}
 use Rattle.std.specs.List.{list_all}
 use Rattle.std.proofs.lemmas.List.Folds.{list_all_at}
 use Rattle.std.proofs.lemmas.List.Sums.{list_all-from_AllPass}
@@ -7,7 +7,7 @@ use Rattle.std.proofs.lemmas.List.Quantifiers.{position-Some}
 use Rattle.std.proofs.lemmas.Bool.Decides.{nat_tests}
 use Rattle.std.proofs.lemmas.Slice.Eq.{bytes_eq-Decides}
 use Rattle.prof_base.specs.Text.{is_printable, IsText}
-use Rattle.guest_text.specs.Reading.{Front, onto_text, unquoted, is_digit, digits_from, checked_text}
+use Rattle.guest_text.specs.Reading.{Front, onto_text, is_digit, digits_from, checked_text}
 
 -- what was read before, and what is still read
 abbrev pub with_front : List ℕ → Option (Front (List ℕ)) → Option (Front (List ℕ))

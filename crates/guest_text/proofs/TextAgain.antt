@@ -1,8 +1,7 @@
 -- A program that was written is read again.
-use Rattle.std.proofs.Common.{◌≡◌, ◌∙◌, ℕ, zero, suc, ◌+◌, ◌-◌, ◌*◌, ◌^◌, ◌≤◌, ◌<◌, List, [], ◌∷◌, ◌++◌, length, flat_map, Option, Some, None, Result, Ok, Err, Bool, true, false, cond, ◌==◌, refl, sym, ap, subst, append_assoc, append-nil, length-append, arith, rules, codes, decimal}
+use Rattle.std.proofs.Common.{◌≡◌, ◌∙◌, ℕ, zero, suc, ◌-◌, ◌^◌, ◌≤◌, ◌<◌, List, [], ◌∷◌, ◌++◌, length, flat_map, Some, None, Err, Bool, false, ◌==◌, refl, sym, ap, append_assoc, append-nil, length-append, arith, codes, decimal}
 use Rattle.std.specs.List.{AllByRecursion}
 use Rattle.std.proofs.lemmas.Bool.Decides.{nat_tests}
-use Rattle.std.proofs.lemmas.Fmt.{decimal_nonempty}
 use Rattle.guest_text.specs.declared.refused.ProgramRefused.{ProgramRefused}
 use Rattle.guest_text.specs.declared.refused.ProgramRefused.TheVariants as refused
 use Rattle.guest_text.specs.declared.instr.Op.{Op}
@@ -10,10 +9,10 @@ use Rattle.guest_text.specs.declared.instr.Op.TheVariants.{Set, Halt}
 use Rattle.guest_text.specs.declared.instr.Instr.{Instr}
 use Rattle.guest_text.specs.declared.instr.Func.{Func}
 use Rattle.guest_text.specs.declared.line.Head.{Head}
-use Rattle.guest_text.specs.Program.{IsOp, IsInstr, IsFunc, IsMain, IsProgram, label_at}
+use Rattle.guest_text.specs.Program.{IsOp, IsInstr, IsFunc, IsMain, IsProgram}
 use Rattle.guest_text.specs.ProgramText.{escaped, quoted_word, number_word, inline_word, op_name, operands, instr_line, func_line, func_text, program_text}
-use Rattle.guest_text.specs.Straight.{IsSetOrHalt, ends_in_halt, IsStraight, HasReading, IsOnlyReading}
-use Rattle.guest_text.specs.Reading.{Front, ◌>>=◌, Reads, IfAt, behind, set_at, op_at, instr_at, body_at, head_at, func_of, func_at}
+use Rattle.guest_text.specs.Straight.{IsSetOrHalt, IsStraight, HasReading, IsOnlyReading}
+use Rattle.guest_text.specs.Reading.{Reads, IfAt, set_at, op_at, instr_at, body_at, head_at, func_at}
 use Rattle.guest_text.proofs.Again.{behind_again, behind_other, number_again, word_again, quoted_again, places_again}
 
 set_again : (reg number : ℕ) (rest : List ℕ) → reg ≤ 7 → number < 2 ^ 64 → set_at (decimal reg ++ 32 ∷ (decimal number ++ 10 ∷ rest)) ≡ Some (Set reg number, rest)

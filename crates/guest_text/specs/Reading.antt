@@ -1,9 +1,8 @@
--- What is read from a text, from left to right. Reading takes more than the canonical texts: what was read is written again and held against the text.
-use Rattle.std.specs.Prelude.{◌≡◌, ℕ, zero, suc, ◌+◌, ◌-◌, ◌*◌, ◌^◌, ◌≤◌, ◌<◌, List, [], ◌∷◌, length, take, drop, Bool, true, false, ◌&&◌, ◌==◌, nat_le, if◌then◌else◌, codes, bytes_eq, Option, Some, None, Result, Ok, Err}
-use Rattle.std.specs.List.{list_all, AllByRecursion}
+-- What is read from a text, from left to right.
+use Rattle.std.specs.Prelude.{◌≡◌, ℕ, zero, suc, ◌+◌, ◌-◌, ◌*◌, ◌^◌, ◌≤◌, ◌<◌, List, [], ◌∷◌, length, take, drop, Bool, true, false, not, ◌&&◌, ◌||◌, ◌==◌, nat_le, if◌then◌else◌, codes, bytes_eq, Option, Some, None, Result, Ok, Err}
+use Rattle.std.specs.List.{list_all}
 use Rattle.prof_base.specs.Text.{is_printable, IsText}
-use Rattle.guest_text.specs.Program.{IsUpToMillion, IsFunc, IsProgram}
-use Rattle.guest_text.specs.ProgramText.{program_text}
+use Rattle.guest_text.specs.Program.{IsUpToMillion, IsFunc}
 use Rattle.guest_text.specs.Straight.{ends_in_halt, IsStraight}
 use Rattle.guest_text.specs.declared.refused.ProgramRefused.{ProgramRefused}
 use Rattle.guest_text.specs.declared.refused.ProgramRefused.TheVariants as refused
@@ -56,21 +55,37 @@ abbrev pub digits_from : ℕ → List ℕ → Front ℕ
 digits_from n [] = (n, [])
 digits_from n (b ∷ bytes) = if is_digit b then digits_from (10 * n + (b - 48)) bytes else (n, b ∷ bytes)
 
+-- a digit stands in front
+abbrev pub begins_with_digit : List ℕ → Bool
+begins_with_digit [] = false
+begins_with_digit (b ∷ bytes) = is_digit b
+
+-- a number stands in front: a digit, which is no `0` where another follows
+abbrev pub begins_with_number : List ℕ → Bool
+begins_with_number [] = false
+begins_with_number (b ∷ bytes) = is_digit b && not (b == 48 && begins_with_digit bytes)
+
 -- the number in front, where it is in a range
 unfoldable pub number_at : ℕ → ℕ → List ℕ → Option (Front ℕ)
 number_at least most bytes =
-    if nat_le least (digits_from 0 bytes).0 && nat_le (digits_from 0 bytes).0 most then Some (digits_from 0 bytes) else None
+    if begins_with_number bytes && (nat_le least (digits_from 0 bytes).0 && nat_le (digits_from 0 bytes).0 most)
+    then Some (digits_from 0 bytes)
+    else None
 
 -- a byte in front of a text that is read
 abbrev pub onto_text : ℕ → Option (Front (List ℕ)) → Option (Front (List ℕ))
 onto_text b None = None
 onto_text b (Some text) = Some (b ∷ text.0, text.1)
 
--- the bytes up to the `"` that no `\` stands before; whether one stands before the first byte comes first
+-- the byte is `"` or `\`
+abbrev pub is_escapable : ℕ → Bool
+is_escapable b = b == 34 || b == 92
+
+-- the bytes up to the `"` that no `\` stands before, where each `\` stands before `"` or `\`; whether one stands before the first byte comes first
 abbrev pub unquoted : Bool → List ℕ → Option (Front (List ℕ))
 unquoted meant [] = None
 unquoted meant (b ∷ bytes) =
-    if meant then onto_text b (unquoted false bytes)
+    if meant then (if is_escapable b then onto_text b (unquoted false bytes) else None)
     else if b == 34 then Some ([], bytes)
     else if b == 92 then unquoted true bytes
     else onto_text b (unquoted false bytes)

@@ -1,7 +1,7 @@
 // Parts of a line, from left to right.
 ghost use Rattle.std.specs.Prelude.{◌≡◌, ◌≤◌, ◌<◌, ◌^◌, ◌+◌, ◌-◌, ◌*◌, IfOk, IfSome, IfNone, codes, option_map, false};
 ghost use Rattle.prof_base.specs.Text.{IsText};
-ghost use Rattle.guest_text.specs.Reading.{Gives, behind, is_digit, digits_from, number_at, unquoted, checked_text, text_at, quoted_at, word_at};
+ghost use Rattle.guest_text.specs.Reading.{Gives, behind, is_digit, digits_from, begins_with_digit, begins_with_number, is_escapable, number_at, unquoted, checked_text, text_at, quoted_at, word_at};
 
 use crate::refused::LineFault;
 use prof_base::{Text, TextRefused};
@@ -52,6 +52,25 @@ fn digits(bytes: &[u8]) -> Option<(u64, &[u8])>
     Some((value, rest))
 }
 
+fn begins_with_digit(bytes: &[u8]) -> bool
+    ensures { result ≡ begins_with_digit bytes.now }
+{
+    match bytes {
+        [first, ..] => is_digit(*first),
+        [] => false,
+    }
+}
+
+// Whether a digit stands in front, which is no `0` where another follows.
+fn begins_with_number(bytes: &[u8]) -> bool
+    ensures { result ≡ begins_with_number bytes.now }
+{
+    match bytes {
+        [first, after @ ..] => { is_digit(*first) && !(*first == b'0' && begins_with_digit(after)) }
+        [] => false,
+    }
+}
+
 // The number in front, where it is in the range, and the bytes behind it.
 #[tactic(auto, unfolding(crate::specs::Reading::number_at))]
 pub(crate) fn number(bytes: &[u8], least: u64, most: u64) -> Option<(u64, &[u8])>
@@ -59,6 +78,9 @@ pub(crate) fn number(bytes: &[u8], least: u64, most: u64) -> Option<(u64, &[u8])
     ensures least { IfSome result (λ x. least ≤ x.0) }
     ensures most { IfSome result (λ x. x.0 ≤ most) }
 {
+    if !begins_with_number(bytes) {
+        return None;
+    }
     let (value, rest) = digits(bytes)?;
     if least <= value && value <= most {
         Some((value, rest))
@@ -78,6 +100,12 @@ pub(crate) fn number_word(bytes: &[u8], least: u64, most: u64) -> Option<(u64, &
     number(rest, least, most)
 }
 
+fn is_escapable(byte: u8) -> bool
+    ensures { result ≡ is_escapable byte }
+{
+    byte == b'"' || byte == b'\\'
+}
+
 // The bytes meant up to the closing `"`, and the bytes behind it.
 fn unquoted(alloc: Global, bytes: &[u8]) -> Result<(Vec<u8>, &[u8]), LineFault>
     ensures { Gives (λ x. (x.0.items, x.1.now)) result (unquoted false bytes.now) }
@@ -88,6 +116,9 @@ fn unquoted(alloc: Global, bytes: &[u8]) -> Result<(Vec<u8>, &[u8]), LineFault>
     while let [byte, after @ ..] = rest {
         rest = after;
         if meant {
+            if !is_escapable(*byte) {
+                return Err(LineFault::Word);
+            }
             text.push(*byte)?;
             meant = false;
         } else if *byte == b'"' {

@@ -46,7 +46,7 @@ fn body(alloc: Global, room: u32, bytes: &[u8]) -> Result<Sequence<Instr>, Progr
         Ok(body)
     } else {
         Err(ProgramRefused::At {
-            line: room + 2,
+            line: line_behind(body.as_slice()),
             cause: ProgramCause::Word,
         })
     }
@@ -58,6 +58,18 @@ fn ends_in_halt(body: &[Instr]) -> bool
     match body.last() {
         Some(instr) => matches!(&instr.op, Op::Halt),
         None => false,
+    }
+}
+
+// The line behind the body; its last one, where no line may follow that and it is no halt.
+fn line_behind(body: &[Instr]) -> u32
+    requires { length body.now ≤ 4096 }
+{
+    let behind = body.len() as u32 + 2;
+    if behind == MOST_INSTRS + 2 && !ends_in_halt(body) {
+        behind - 1
+    } else {
+        behind
     }
 }
 
@@ -107,7 +119,7 @@ fn func(alloc: Global, text: &[u8]) -> Result<Func, ProgramRefused>
                 Ok(main_func(alloc, head, body)?)
             } else {
                 Err(ProgramRefused::At {
-                    line: body.len() as u32 + 2,
+                    line: line_behind(body.as_slice()),
                     cause: ProgramCause::Word,
                 })
             }
@@ -130,7 +142,7 @@ fn lone(alloc: Global, func: Func) -> Result<Program, AllocError>
     Ok(Program::new(functions, 0))
 }
 
-// The program that is read, whether or not this is its canonical text.
+// The program that is read. How it is spelled is not said here.
 fn program(alloc: Global, text: &[u8]) -> Result<Program, ProgramRefused>
     ensures straight { IfOk result (λ program. IsStraight program) }
     ensures rules { IfOk result (λ program. IsProgram program) }
@@ -167,7 +179,7 @@ fn difference(text: &[u8], canonical: &[u8]) -> ProgramRefused {
 /// # Errors
 ///
 /// `At` where the text is none of these, with the first line that differs from them and the cause
-/// `Word`. `Memory` where memory was refused, or that line's number is above 2^32 - 1.
+/// `Word`. `Memory` where memory was refused.
 pub fn read_program(alloc: Global, text: &[u8]) -> Result<Program, ProgramRefused>
     ensures straight { IfOk result (λ program. IsStraight program) }
     ensures rules { IfOk result (λ program. IsProgram program) }
@@ -177,6 +189,7 @@ pub fn read_program(alloc: Global, text: &[u8]) -> Result<Program, ProgramRefuse
 {
     let program = program(alloc, text)?;
     let canonical = write_program(alloc, &program)?;
+    // Reading takes no other spelling, so these are equal: comparing them spares the proof.
     if text == canonical.as_slice() {
         Ok(program)
     } else {

@@ -23,8 +23,8 @@ pub enum ProgramCause {
 /// Why a text was not read as a program.
 #[derive(Clone, Copy, Debug, PartialEq, Eq)]
 pub enum ProgramRefused {
-    /// The line `line`, counted from 1, is wrong. It is the number of lines plus 1 where the fault
-    /// lies behind the last one.
+    /// The line `line`, counted from 1, is the first that differs from the texts that can be read.
+    /// It is the number of lines plus 1 where the fault lies behind the last one.
     At { line: u32, cause: ProgramCause },
     /// Memory was refused.
     Memory,

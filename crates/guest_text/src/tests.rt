@@ -54,7 +54,7 @@ fn reads_the_least(rt: HostRuntime) -> Result<(), Fail> {
 
 #[test]
 fn refuses(rt: HostRuntime) {
-    let cases: [(&[u8], u32); 11] = [
+    let cases: [(&[u8], u32); 16] = [
         (b"", 1),
         (b"func main \"\" \"\" 1 1 1\n", 2),
         (b"func main \"\" \"\" 1 1 1\n1 halt", 2),
@@ -72,6 +72,14 @@ fn refuses(rt: HostRuntime) {
         ),
         (b"func main \"\" \"\" 1 1 1000001\n1 halt\n", 1),
         (b"func other \"\" \"\" 1 1 1\n1 halt\n", 1),
+        (
+            b"func main \"\" \"\" 1 1 1\n01 set r0 1\n1 halt\ngarbage\n",
+            2,
+        ),
+        (b"func main \"\" \"\" 1 1 1\n1 set r0 \n", 2),
+        (b"func main \"\" \"\" 1 1 1\n1 set r00 1\n", 2),
+        (b"func main \"\" \"\" 00 1 1\ngarbage\n", 1),
+        (b"func main \"\\x\" \"\" 1 1 1\ngarbage\n", 1),
     ];
     for (text, wanted) in cases.iter() {
         match read_program(rt.alloc(), text) {
@@ -84,6 +92,42 @@ fn refuses(rt: HostRuntime) {
             _ => assert!(rt; false),
         }
     }
+}
+
+fn many_sets(alloc: Global, count: u32, end: &[u8]) -> Result<Vec<u8>, Fail> {
+    let mut text = Vec::new(alloc);
+    text.extend_from_slice(b"func main \"\" \"\" 1 1 1\n")?;
+    for _ in 0..count {
+        text.extend_from_slice(b"1 set r0 1\n")?;
+    }
+    text.extend_from_slice(end)?;
+    Ok(text)
+}
+
+fn expect_at(rt: &impl Abort, alloc: Global, text: &[u8], wanted: u32) {
+    match read_program(alloc, text) {
+        Err(
+            ProgramRefused::At {
+                line,
+                cause: ProgramCause::Word,
+            },
+        ) => assert_eq!(rt; line, wanted),
+        _ => assert!(rt; false),
+    }
+}
+
+#[test]
+fn refuses_at_the_limit(rt: HostRuntime) -> Result<(), Fail> {
+    let alloc = rt.alloc();
+    let full = many_sets(alloc, 4096, b"")?;
+    expect_at(&rt, alloc, full.as_slice(), 4097);
+    let over = many_sets(alloc, 4096, b"1 halt\n")?;
+    expect_at(&rt, alloc, over.as_slice(), 4097);
+    let more = many_sets(alloc, 4095, b"1 halt\n1 halt\n")?;
+    expect_at(&rt, alloc, more.as_slice(), 4098);
+    let open = many_sets(alloc, 4095, b"")?;
+    expect_at(&rt, alloc, open.as_slice(), 4097);
+    Ok(())
 }
 
 fn idle_func(alloc: Global) -> Result<Func, Fail> {

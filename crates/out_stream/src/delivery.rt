@@ -17,9 +17,11 @@ pub fn deliver(
     ensures ok { OnOk result (parts stream.new ≡ closed (grown (parts stream.old) bytes.now)) }
     ensures err { OnErr result (GrowsByPrefix (parts stream.old) (parts stream.new) bytes.now) }
 
-    // An abort and a fault have their counts.
+    // An abort and a fault have their counts, which stand still where all went on.
     ensures aborted { IsErrOf result Undelivered.Aborted → Rose (aborts stream.old) (aborts stream.new) }
     ensures failed { IsErrOf result Undelivered.Failed → Rose (stream_faults stream.old) (stream_faults stream.new) }
+    ensures no_abort { OnOk result (aborts stream.new ≡ aborts stream.old) }
+    ensures no_fault { OnOk result (stream_faults stream.new ≡ stream_faults stream.old) }
 
     // The size stays, and no count falls.
     ensures size { chunk_bytes stream.new ≡ chunk_bytes stream.old }

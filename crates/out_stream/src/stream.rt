@@ -56,9 +56,11 @@ pub trait OutputStream: Drop {
         ensures failed { result ≡ Chunk.Failed → parts self.new ≡ parts self.old }
         ensures memory { result ≡ Chunk.Memory → parts self.new ≡ parts self.old }
 
-        // An abort and a fault have their counts.
+        // An abort and a fault have their counts, which stand still while the chunks go on.
         ensures abort_cause { result ≡ Chunk.Abort → Rose (aborts self.old) (aborts self.new) }
         ensures fault_cause { result ≡ Chunk.Failed → Rose (stream_faults self.old) (stream_faults self.new) }
+        ensures no_abort { result ≡ Chunk.Continue → aborts self.new ≡ aborts self.old }
+        ensures no_fault { result ≡ Chunk.Continue → stream_faults self.new ≡ stream_faults self.old }
 
         // The size stays, and no count falls.
         ensures size { chunk_bytes self.new ≡ chunk_bytes self.old }
@@ -81,9 +83,11 @@ pub trait OutputStream: Drop {
         ensures ok { OnOk result (parts self.new ≡ closed (grown (parts self.old) bytes.now)) }
         ensures err { OnErr result (GrowsByPrefix (parts self.old) (parts self.new) bytes.now) }
 
-        // An abort and a fault have their counts.
+        // An abort and a fault have their counts, which stand still where all went on.
         ensures aborted { IsErrOf result Undelivered.Aborted → Rose (aborts self.old) (aborts self.new) }
         ensures failed { IsErrOf result Undelivered.Failed → Rose (stream_faults self.old) (stream_faults self.new) }
+        ensures no_abort { OnOk result (aborts self.new ≡ aborts self.old) }
+        ensures no_fault { OnOk result (stream_faults self.new ≡ stream_faults self.old) }
 
         // The size stays, and no count falls.
         ensures size { chunk_bytes self.new ≡ chunk_bytes self.old }

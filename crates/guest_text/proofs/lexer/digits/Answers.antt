@@ -1,4 +1,4 @@
-use Rattle.std.proofs.Common.{arith, sym, ◌∙◌}
+use Rattle.std.proofs.Common.{arith}
 use Rattle.guest_text.proofs.Readers.{value_past}
 use Rattle.guest_text.proofs.lexer.digits.Goals as goal
 

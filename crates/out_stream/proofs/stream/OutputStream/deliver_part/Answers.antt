@@ -7,6 +7,6 @@ loop-rest-preserved g c = record {
   sent = next_sent _ _ _ _ _ _ _ _ c.loop-rest.invariant.sent c.split_at.ensures.front c.split_at.ensures.back (c.in-Continue.ensures.went_on refl);
   size = search rules;
   positive = search rules;
-  aborts = search rules;
-  faults = search rules;
+  no_abort = search rules;
+  no_fault = search rules;
 }

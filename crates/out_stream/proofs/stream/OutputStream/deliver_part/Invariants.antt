@@ -9,8 +9,8 @@ invariant-loop-rest g l =
       sent : Sent l.bytes l.rest (stream.parts l.fn.self) (stream.parts l.self);
       size : stream.chunk_bytes l.self ≡ stream.chunk_bytes l.fn.self;
       positive : 1 ≤ l.size;
-      aborts : stream.aborts l.fn.self ≤ stream.aborts l.self;
-      faults : stream.stream_faults l.fn.self ≤ stream.stream_faults l.self;
+      no_abort : stream.aborts l.self ≡ stream.aborts l.fn.self;
+      no_fault : stream.stream_faults l.self ≡ stream.stream_faults l.fn.self;
     }
 
 abbrev pub decreases-loop-rest : goal.decreases-loop-rest

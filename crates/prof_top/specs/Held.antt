@@ -1,0 +1,21 @@
+-- What a depot that tells its files has under the name of a program.
+use Rattle.std.specs.Prelude.{◌≡◌, ℕ, List, Option, None, IfSome, IsSomeAnd}
+use Rattle.prof_outer.specs.Files.{FileMap, file_at}
+use Rattle.guest_text.specs.Straight.{HasReading}
+use Rattle.prof_top.specs.Command.{IsRun}
+
+-- where the depot tells, it has no file under the name
+abbrev pub LacksFile : Option FileMap → List ℕ → Type 0
+LacksFile held name = IfSome held (λ files. file_at files name ≡ None)
+
+-- where the depot tells, it has a file under the name that has no reading
+abbrev pub HoldsUnreadable : Option FileMap → List ℕ → Type 0
+HoldsUnreadable held name = IfSome held (λ files. IsSomeAnd (file_at files name) (λ text. ¬ HasReading text))
+
+-- where the depot tells a file under the name, it has a reading
+abbrev pub MayRead : Option FileMap → List ℕ → Type 0
+MayRead held name = IfSome held (λ files. IfSome (file_at files name) HasReading)
+
+-- the same of the name that the words give
+abbrev pub MayReadProgram : Option FileMap → List (List ℕ) → Type 0
+MayReadProgram held words = (name : List ℕ) (every : ℕ) → IsRun words name every → MayRead held name

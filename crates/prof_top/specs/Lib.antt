@@ -1,0 +1,5 @@
+pub mod Causes
+pub mod Command
+pub mod Ending
+pub mod Held
+pub mod Status

@@ -1,0 +1,125 @@
+// How a call ends: its status and its line of error.
+ghost use Rattle.std.specs.Prelude.{◌≡◌, ◌⊎◌, ◌≤◌, IfOk, string_bytes};
+ghost use Rattle.prof_top.specs.Ending.{status_of, cause_word, refused_line, line_of};
+
+use guest_text::ProgramCause;
+use prof_base::Text;
+use prof_outer::{Sink, SinkFault};
+use std::alloc::{AllocError, Global};
+
+/// How a call ends, with what its line of error tells.
+#[derive(Debug, Drop)]
+pub enum Ending {
+    /// The guest halted, every file was delivered, and the text was written.
+    Done,
+    /// The words are no line of the command table.
+    Usage,
+    /// The text of the program has no reading: the first fault is at this line, counted from 1.
+    ProgramRefused {
+        name: Text,
+        line: u32,
+        cause: ProgramCause,
+    },
+    /// There is no file with this name.
+    Missing {
+        name: Text,
+    },
+    /// The file with this name could not be read.
+    CannotRead {
+        name: Text,
+    },
+    /// The stream or `out` failed.
+    CannotWrite,
+    /// Memory was refused.
+    Memory,
+    /// The stream aborted.
+    Aborted,
+}
+
+fn cause_word(cause: ProgramCause) -> &'static str
+    ensures { result.now ≡ cause_word cause }
+{
+    match cause {
+        ProgramCause::Word => "word",
+        ProgramCause::Number => "number",
+        ProgramCause::UnknownName => "unknown",
+        ProgramCause::Twice => "twice",
+        ProgramCause::Limit => "limit",
+        ProgramCause::NoMain => "nomain",
+    }
+}
+
+fn refused_line(
+    alloc: Global,
+    name: &Text,
+    line: u32,
+    cause: ProgramCause,
+) -> Result<String, AllocError>
+    ensures { IfOk result (λ text. string_bytes text ≡ refused_line name.now line cause) }
+{
+    let name = name.as_str();
+    let mut text = format!(in alloc; "cpuprof: program {name} line {line}: ")?;
+    text.push_str(cause_word(cause))?;
+    text.push_str("\n")?;
+    Ok(text)
+}
+
+impl Ending {
+    /// The exit status.
+    pub(crate) fn status(&self) -> u8
+        ensures { result ≡ status_of self.now }
+    {
+        match self {
+            Ending::Done => 0,
+            Ending::Usage => 1,
+            Ending::ProgramRefused { .. } => 2,
+            Ending::Missing { .. } => 3,
+            Ending::CannotRead { .. } => 4,
+            Ending::CannotWrite => 5,
+            Ending::Memory => 6,
+            Ending::Aborted => 14,
+        }
+    }
+
+    /// The line of error with its line end, and no bytes where all was done.
+    pub(crate) fn line(&self, alloc: Global) -> Result<String, AllocError>
+        ensures { IfOk result (λ line. string_bytes line ≡ line_of self.now) }
+    {
+        match self {
+            Ending::Done => Ok(String::new(alloc)),
+            Ending::Usage => String::from_str(alloc, "cpuprof: usage\n"),
+            Ending::ProgramRefused { name, line, cause } => refused_line(
+                alloc, name, *line, *cause,
+            ),
+            Ending::Missing { name } => {
+                let name = name.as_str();
+                format!(in alloc; "cpuprof: no file {name}\n")
+            }
+            Ending::CannotRead { name } => {
+                let name = name.as_str();
+                format!(in alloc; "cpuprof: cannot read {name}\n")
+            }
+            Ending::CannotWrite => String::from_str(alloc, "cpuprof: cannot write\n"),
+            Ending::Memory => String::from_str(alloc, "cpuprof: out of memory\n"),
+            Ending::Aborted => String::from_str(alloc, "cpuprof: stream aborted\n"),
+        }
+    }
+}
+
+/// Tells how the call ends by its line on `err`, where there is one. A fault of `err` changes
+/// nothing; its want of memory is the call's.
+pub(crate) fn tell<E: Sink>(alloc: Global, ending: Ending, err: &mut E) -> Ending
+    ensures told { (result ≡ ending) ⊎ (result ≡ Ending.Memory) }
+    ensures faults { E.faults err.old ≤ E.faults err.new }
+{
+    let Ok(line) = ending.line(alloc) else {
+        return Ending::Memory;
+    };
+    if line.is_empty() {
+        return ending;
+    }
+    match err.write_all(alloc, line.as_bytes()) {
+        Err(SinkFault::Memory) => Ending::Memory,
+        Ok(()) | Err(SinkFault::Failed) => ending,
+    }
+}

@@ -1,0 +1,16 @@
+//! The top calls of the profiler: what the program does for the words of its command line.
+#![tactic(auto)]
+
+mod call;
+mod ending;
+mod load;
+mod machine;
+mod profile;
+mod recording;
+mod run;
+mod words;
+
+pub use call::{Outcome, cpuprof_once};
+
+#[cfg(test)]
+mod tests;
