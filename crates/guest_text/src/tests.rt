@@ -184,7 +184,7 @@ fn writes_steps_of_the_machine(rt: HostRuntime) -> Result<(), Fail> {
     let func = idle_func(alloc)?;
     let f = FuncId(0);
     let reason = Text::new(alloc, b"a b\\")?;
-    let other = reason.copy(alloc)?;
+    let other = reason.copy()?;
     expect_line(&rt, alloc, &func, Op::Call(f), b"1 call f_1\n")?;
     expect_line(&rt, alloc, &func, Op::Opt(f), b"1 opt f_1\n")?;
     expect_line(

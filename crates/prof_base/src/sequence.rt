@@ -1,5 +1,5 @@
 // The one list type of the public interfaces.
-ghost use Rattle.std.specs.Prelude.{◌≡◌, ◌↔◌, [], ◌∷◌, ◌++◌, length, IsTrue, OnOk, OnErr};
+ghost use Rattle.std.specs.Prelude.{◌≡◌, ◌↔◌, [], ◌∷◌, ◌++◌, length, IsTrue, IfOk, OnOk, OnErr};
 
 use crate::memory::Memory;
 use std::alloc::Global;
@@ -55,6 +55,11 @@ impl<T> Sequence<T> {
         self.items.as_slice()
     }
 
+    /// The allocator that the list was made with.
+    pub fn allocator(&self) -> Global {
+        *self.items.allocator()
+    }
+
     /// How many elements there are.
     pub fn len(&self) -> usize
         ensures { result ≡ length self.now }
@@ -79,5 +84,15 @@ impl<T: Drop> Sequence<T> {
     {
         self.items.push(item)?;
         Ok(())
+    }
+}
+
+impl<T: Copy> Sequence<T> {
+    /// A list of the same elements, on the same allocator.
+    pub fn copy(&self) -> Result<Sequence<T>, Memory>
+        ensures { IfOk result (λ copy. copy ≡ self.now) }
+    {
+        let items = Vec::from_slice(self.allocator(), self.items.as_slice())?;
+        Ok(Sequence { items })
     }
 }

@@ -11,7 +11,7 @@ fn a_text_is_up_to_200_printable_bytes(rt: HostRuntime) -> Result<(), Fail> {
     for bytes in [b" ~".as_slice(), b"", &long[..200]] {
         let text = Text::new(alloc, bytes)?;
         assert_eq!(rt; text.bytes(), bytes);
-        let copy = text.copy(alloc)?;
+        let copy = text.copy()?;
         assert!(rt; text.same(&copy));
         assert_eq!(rt; text.as_str().as_bytes(), bytes);
     }
@@ -35,6 +35,8 @@ fn a_sequence_keeps_its_elements_in_order(rt: HostRuntime) -> Result<(), Fail> {
     numbers.push(FuncId(3))?;
     numbers.push(FuncId(1))?;
     assert_eq!(rt; numbers.len(), 2);
+    let copy = numbers.copy()?;
+    assert_eq!(rt; copy.as_slice(), [FuncId(3), FuncId(1)].as_slice());
     let again = Sequence::from_vec(numbers.into_vec());
     assert_eq!(rt; again.as_slice(), [FuncId(3), FuncId(1)].as_slice());
     Ok(())

@@ -75,11 +75,11 @@ impl Text {
         }
     }
 
-    /// A text with the same bytes.
-    pub fn copy(&self, alloc: Global) -> Result<Text, Memory>
+    /// A text with the same bytes, on the same allocator.
+    pub fn copy(&self) -> Result<Text, Memory>
         ensures { IfOk result (λ text. text ≡ self.now) }
     {
-        let bytes = self.bytes.to_vec(alloc)?;
+        let bytes = self.bytes.to_vec(*self.bytes.allocator())?;
         Ok(Text { bytes })
     }
 
