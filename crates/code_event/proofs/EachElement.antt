@@ -1,0 +1,29 @@
+-- What holds of each element of a list.
+use Rattle.std.proofs.Common.{◌≡◌, List, [], ◌∷◌, ◌++◌, refl}
+use Rattle.std.specs.Prelude.{Bool, true, false, cond, filter, map}
+use Rattle.std.specs.List.{AllByRecursion}
+
+-- one more element in front, where it is kept
+pub all_if : {X : Type 0} (P : X → Type 0) (x : X) (xs : List X) (b : Bool) → (b ≡ true → P x) → AllByRecursion P xs → AllByRecursion P (cond b (x ∷ xs) xs)
+all_if P x xs true first all = (first refl, all)
+all_if P x xs false first all = all
+
+pub all_filtered : {X : Type 0} (P : X → Type 0) (test : X → Bool) (xs : List X) → AllByRecursion P xs → AllByRecursion P (filter test xs)
+all_filtered P test [] all = tt
+all_filtered P test (x ∷ xs) all = all_if P x (filter test xs) (test x) (λ _. all.0) (all_filtered P test xs all.1)
+
+pub all_pass : {X : Type 0} (test : X → Bool) (xs : List X) → AllByRecursion (λ x. test x ≡ true) (filter test xs)
+all_pass test [] = tt
+all_pass test (x ∷ xs) = all_if (λ x. test x ≡ true) x (filter test xs) (test x) (λ e. e) (all_pass test xs)
+
+pub all_mapped : {X : Type 0} (P Q : X → Type 0) (xs : List X) → ((x : X) → P x → Q x) → AllByRecursion P xs → AllByRecursion Q xs
+all_mapped P Q [] each all = tt
+all_mapped P Q (x ∷ xs) each all = (each x all.0, all_mapped P Q xs each all.1)
+
+pub all_pushed : {X : Type 0} (P : X → Type 0) (xs : List X) (y : X) → AllByRecursion P xs → P y → AllByRecursion P (xs ++ y ∷ [])
+all_pushed P [] y all last = (last, tt)
+all_pushed P (x ∷ xs) y all last = (all.0, all_pushed P xs y all.1 last)
+
+pub all_of_map : {X Y : Type 0} (P : Y → Type 0) (f : X → Y) (xs : List X) → ((x : X) → P (f x)) → AllByRecursion P (map f xs)
+all_of_map P f [] each = tt
+all_of_map P f (x ∷ xs) each = (each x, all_of_map P f xs each)

@@ -1,0 +1,10 @@
+pub mod Counts
+pub mod Disjoint
+pub mod EachElement
+pub mod HitLines
+pub mod HitSums
+pub mod LoneUnit
+pub mod NodeSets
+pub mod OwnTicks
+pub mod PathOrder
+pub mod Stamping

@@ -1,0 +1,74 @@
+-- What holds of the definitions for all that may come.
+use Rattle.std.specs.Prelude.{◌≡◌, ◌≤◌, ℕ, List, [], ◌∷◌, Bool, true, false, Option, option_map, filter, sum_by, count_by}
+use Rattle.std.specs.List.{AllByRecursion}
+use Rattle.code_event.specs.CodeRanges.{Reasons, meets, ranges}
+use Rattle.code_event.specs.ItemList.{IsStamped, stamped}
+use Rattle.code_event.specs.KeptTicks.{is_for, kept, recording}
+use Rattle.code_event.specs.Seen.{Seen, started, stopped, finished, ticked}
+use Rattle.code_event.specs.Steps.{holds}
+use Rattle.code_event.specs.Tree.{fin_nodes}
+use Rattle.code_event.specs.declared.event.CodeEvent.{CodeEvent}
+use Rattle.code_event.specs.declared.ranges.Range.{Range}
+use Rattle.code_event.specs.declared.seen.SeenTick.{SeenTick}
+use Rattle.code_event.specs.declared.tick.Item.{Item}
+use Rattle.code_event.specs.declared.tree.Visit.{Visit}
+
+-- no two of these ranges share an address: each meets none of those behind it
+abbrev pub AreDisjoint : List Range → Type 0
+AreDisjoint [] = Unit {0}
+AreDisjoint (range ∷ others) = AllByRecursion (λ other. meets range other ≡ false) others × AreDisjoint others
+
+-- whatever the events, the ranges after them are disjoint
+abbrev pub RangesAreDisjoint : Type 0
+RangesAreDisjoint = (events : List CodeEvent) → AreDisjoint (ranges events)
+
+-- meeting goes both ways, so that ranges that are disjoint meet in no order
+abbrev pub MeetingIsMutual : Type 0
+MeetingIsMutual = (one other : Range) → meets one other ≡ meets other one
+
+-- whatever the events, no address is in two of the ranges after them
+abbrev pub AddressesHaveOneOwner : Type 0
+AddressesHaveOneOwner = (events : List CodeEvent) (address : ℕ) → count_by (holds address) (ranges events) ≤ 1
+
+-- whatever the items, they are stamped once they have their stamps
+abbrev pub StampingGivesStamps : Type 0
+StampingGivesStamps = (items : List Item) → IsStamped (stamped items)
+
+-- a stamped list is what stamping makes of it
+abbrev pub StampingKeepsStamped : Type 0
+StampingKeepsStamped = (items : List Item) → IsStamped items → stamped items ≡ items
+
+-- two stamped lists that agree but for their stamps are one
+abbrev pub StampedListsAreOne : Type 0
+StampedListsAreOne = (one other : List Item) → IsStamped one → IsStamped other → stamped one ≡ stamped other → one ≡ other
+
+-- what is seen concerns a session: all but the ticks that are for another session alone
+abbrev pub concerns : ℕ → Seen → Bool
+concerns session (started s options time) = true
+concerns session (stopped s time reasons) = true
+concerns session (finished time files reasons) = true
+concerns session (ticked tick) = is_for session tick.only
+
+-- what is seen without what does not concern a session
+abbrev pub concerning : ℕ → List Seen → List Seen
+concerning session seen = filter (concerns session) seen
+
+-- the ticks that a session keeps of what is seen, by the isolate's base, if the session has a recording
+abbrev pub kept_of : ℕ → ℕ → List Seen → Option (List SeenTick)
+kept_of base session seen = option_map (λ told. kept base told.begun) (recording session seen)
+
+-- a session's recording is the same without the ticks that are for other sessions
+abbrev pub RecordingsAreTheirOwn : Type 0
+RecordingsAreTheirOwn = (session : ℕ) (seen : List Seen) → recording session (concerning session seen) ≡ recording session seen
+
+-- so are the ticks that it keeps
+abbrev pub KeptTicksAreTheirOwn : Type 0
+KeptTicksAreTheirOwn = (base session : ℕ) (seen : List Seen) → kept_of base session (concerning session seen) ≡ kept_of base session seen
+
+-- the hits of all nodes add up to the visits that count
+abbrev pub HitsAddUp : Type 0
+HitsAddUp = (visits : List Visit) (reasons : Reasons) → sum_by (λ node. node.hits) (fin_nodes visits reasons) ≡ count_by (λ visit. visit.hit) visits
+
+-- the ticks of a node's lines add up to no more than its hits
+abbrev pub LinesAreWithinHits : Type 0
+LinesAreWithinHits = (visits : List Visit) (reasons : Reasons) → AllByRecursion (λ node. sum_by (λ line. line.ticks) node.lines ≤ node.hits) (fin_nodes visits reasons)

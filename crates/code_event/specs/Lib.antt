@@ -1,0 +1,13 @@
+pub mod Parts
+pub mod Layout
+pub mod ItemList
+pub mod CodeRanges
+pub mod Steps
+pub mod Seen
+pub mod KeptTicks
+pub mod Tree
+pub mod Finished
+pub mod FileText
+pub mod ItemFile
+pub mod Examples
+pub mod Laws

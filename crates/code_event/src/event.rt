@@ -1,0 +1,163 @@
+// Code events, and the commands and answers that lead to some of them.
+ghost use Rattle.std.specs.Prelude.{◌≡◌, ◌≤◌, IfOk};
+
+use crate::layout::Layout;
+use prof_base::{Memory, Micros, Sequence, SessionId, Text};
+
+/// Which line of a caller a node of the profile stands for, after V8's line modes.
+#[derive(Clone, Copy, Debug, PartialEq, Eq)]
+pub enum Mode {
+    /// None: a function called from two lines of another is one node (`kLeafNodeLineNumbers`).
+    Leaf,
+    /// The line of the call: it is two (`kCallerLineNumbers`).
+    Caller,
+}
+
+/// What a recording is asked to do.
+#[derive(Clone, Copy, Debug, PartialEq, Eq)]
+pub struct Options {
+    /// The connection that asked, from 1 to 8, or 0.
+    pub port: u8,
+    /// The interval of its samples in microseconds, from 1 to 1,000,000,000.
+    pub interval: u32,
+    pub mode: Mode,
+    /// The greatest number of samples that it lists, or none: its nodes and hits go on past that.
+    pub max_samples: Option<u32>,
+    ghost low: { 1 ≤ interval },
+    ghost high: { interval ≤ 1000000000 },
+}
+
+/// What a port asks of an isolate.
+#[derive(Clone, Copy, Debug, PartialEq, Eq)]
+pub enum Command {
+    Start(Options),
+    Stop(SessionId),
+}
+
+/// What an isolate answers to a command.
+#[derive(Clone, Copy, Debug, PartialEq, Eq)]
+pub enum Answer {
+    /// The session runs, and has this number.
+    Started(SessionId),
+    /// 100 sessions run.
+    TooMany,
+    /// The session was stopped.
+    Stopped,
+    /// No such session runs, or it was started at another port.
+    NoSession,
+    /// The isolate has ended.
+    Ended,
+}
+
+/// What a port gets of a recording that has ended.
+#[derive(Debug, Drop)]
+pub enum PortFile {
+    File {
+        session: SessionId,
+        /// The text of its file.
+        bytes: Sequence<u8>,
+    },
+    /// Its file was lost.
+    Lost {
+        session: SessionId,
+    },
+}
+
+/// A change of the isolate's code or of its sessions. Addresses are those of code objects' starts.
+#[derive(Debug, Drop)]
+pub enum CodeEvent {
+    /// A code object was made.
+    Create {
+        start: u32,
+        layout: Layout,
+    },
+    /// A code object was moved.
+    Move {
+        from: u32,
+        to: u32,
+    },
+    /// The code object's function is not to be optimised, for the reason given.
+    NoOpt {
+        start: u32,
+        reason: Text,
+    },
+    /// The code object was given up, for the reason given.
+    Deopt {
+        start: u32,
+        reason: Text,
+    },
+    /// A code object was freed.
+    Delete {
+        start: u32,
+    },
+    /// A session was started.
+    Start {
+        session: SessionId,
+        options: Options,
+        time: Micros,
+    },
+    /// A session was stopped.
+    Stop {
+        session: SessionId,
+        time: Micros,
+    },
+    /// The isolate has ended. Where `files`, the sessions that run are finished; else they are lost.
+    Finish {
+        time: Micros,
+        files: bool,
+    },
+}
+
+/// An event with its stamps.
+#[derive(Debug, Drop)]
+pub struct EventRecord {
+    /// Its place among the events, from 1.
+    pub number: u64,
+    /// How many undropped ticks stand before it.
+    pub ticks_before: u64,
+    pub event: CodeEvent,
+}
+
+impl CodeEvent {
+    /// An equal event, on the allocators of what it copies.
+    pub fn copy(&self) -> Result<CodeEvent, Memory>
+        ensures { IfOk result (λ copy. copy ≡ self.now) }
+    {
+        match self {
+            CodeEvent::Create { start, layout } => Ok(CodeEvent::Create {
+                start: *start,
+                layout: layout.copy()?,
+            }),
+            CodeEvent::Move { from, to } => Ok(CodeEvent::Move {
+                from: *from,
+                to: *to,
+            }),
+            CodeEvent::NoOpt { start, reason } => Ok(CodeEvent::NoOpt {
+                start: *start,
+                reason: reason.copy()?,
+            }),
+            CodeEvent::Deopt { start, reason } => Ok(CodeEvent::Deopt {
+                start: *start,
+                reason: reason.copy()?,
+            }),
+            CodeEvent::Delete { start } => Ok(CodeEvent::Delete { start: *start }),
+            CodeEvent::Start {
+                session,
+                options,
+                time,
+            } => Ok(CodeEvent::Start {
+                session: *session,
+                options: *options,
+                time: *time,
+            }),
+            CodeEvent::Stop { session, time } => Ok(CodeEvent::Stop {
+                session: *session,
+                time: *time,
+            }),
+            CodeEvent::Finish { time, files } => Ok(CodeEvent::Finish {
+                time: *time,
+                files: *files,
+            }),
+        }
+    }
+}

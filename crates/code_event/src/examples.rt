@@ -1,0 +1,44 @@
+//! The definitions, computed on worked examples. Each function does nothing: its contract is the example.
+ghost use Rattle.std.specs.Prelude.{◌≡◌, [], ◌∷◌, Some, codes};
+ghost use Rattle.code_event.specs.CodeRanges.{ranges, range_of};
+ghost use Rattle.code_event.specs.Steps.{steps_over, leaf_path, caller_path, leaf_line};
+ghost use Rattle.code_event.specs.Seen.{seen_items};
+ghost use Rattle.code_event.specs.Finished.{finished_of};
+ghost use Rattle.code_event.specs.ItemFile.{item_file, session};
+ghost use Rattle.code_event.specs.Examples.{overlap_fold, overlap_file, inlined, step, path_step, three_slots, two_sessions, first_of_two, second_of_two, two_intervals, kept_times};
+ghost use Rattle.code_event.specs.declared.event.CodeEvent.TheVariants as event;
+ghost use Rattle.code_event.specs.declared.tick.VmState.TheVariants as state;
+
+/// A moved code object is at its new place alone, also where that overlaps the old one.
+pub fn moved_code_is_at_its_new_place()
+    ensures overlapping { ranges (event.Create 4104 three_slots ∷ event.Move 4104 4096 ∷ []) ≡ range_of 4096 three_slots ∷ [] }
+    ensures apart { ranges (event.Create 4112 three_slots ∷ event.Move 4112 4096 ∷ []) ≡ range_of 4096 three_slots ∷ [] }
+{}
+
+/// A slot of an inlined function stands for that function and for the one that it is inlined in, at
+/// the line of the call.
+pub fn an_inlined_slot_stands_for_two_functions()
+    ensures steps { steps_over inlined state.Js (208 ∷ 204 ∷ []) ≡ step (codes "f") 1 2 ∷ step (codes "f") 1 3 ∷ step (codes "g") 8 9 ∷ [] }
+    ensures leaf { leaf_path (steps_over inlined state.Js (208 ∷ 204 ∷ [])) ≡ path_step (codes "f") 1 0 ∷ path_step (codes "f") 1 0 ∷ path_step (codes "g") 8 0 ∷ [] }
+    ensures caller { caller_path 0 (steps_over inlined state.Js (208 ∷ 204 ∷ [])) ≡ path_step (codes "f") 1 0 ∷ path_step (codes "f") 1 2 ∷ path_step (codes "g") 8 3 ∷ [] }
+    ensures leaf_line { leaf_line (steps_over inlined state.Js (208 ∷ 204 ∷ [])) ≡ 9 }
+    ensures alone { caller_path 0 (steps_over inlined state.Js (208 ∷ [])) ≡ path_step (codes "f") 1 0 ∷ path_step (codes "g") 8 3 ∷ [] }
+{}
+
+/// Two sessions keep the ticks that their own intervals ask for.
+pub fn sessions_keep_ticks_by_their_own_intervals()
+    ensures each { kept_times two_intervals 1 ≡ Some (1000 ∷ 2000 ∷ 3000 ∷ 4000 ∷ 5000 ∷ []) }
+    ensures every_other { kept_times two_intervals 2 ≡ Some (1000 ∷ 3000 ∷ 5000 ∷ 7000 ∷ []) }
+{}
+
+/// Two sessions over one run have the trees, samples and times of their own modes and limits.
+pub fn two_sessions_have_their_own_profiles()
+    ensures first { finished_of 1000 (session 1) (seen_items two_sessions) ≡ Some first_of_two }
+    ensures second { finished_of 1000 (session 2) (seen_items two_sessions) ≡ Some second_of_two }
+{}
+
+/// A function's code is taken away by one that overlaps it, and its addresses are then nobody's. The
+/// file is this one, byte for byte.
+pub fn overlap_takes_a_function_away()
+    ensures { item_file 1000 overlap_fold (session 1) ≡ Some overlap_file }
+{}

@@ -1,0 +1,40 @@
+// Laws of the definitions, each the contract of a function that does nothing.
+ghost use Rattle.code_event.specs.Laws.{AddressesHaveOneOwner, HitsAddUp, KeptTicksAreTheirOwn, LinesAreWithinHits, MeetingIsMutual, RangesAreDisjoint, RecordingsAreTheirOwn, StampedListsAreOne, StampingGivesStamps, StampingKeepsStamped};
+
+/// No two code objects ever share an address: none meets one that stands behind it, meeting goes both
+/// ways, and each address is in at most one.
+pub fn ranges_are_disjoint()
+    ensures disjoint { RangesAreDisjoint }
+    ensures both_ways { MeetingIsMutual }
+    ensures one_owner { AddressesHaveOneOwner }
+{}
+
+/// Stamping any items makes a stamped list.
+pub fn stamping_gives_stamps()
+    ensures { StampingGivesStamps }
+{}
+
+/// The stamps of a stamped list are told by the rest of it: stamping it again changes nothing, and
+/// two stamped lists that agree but for their stamps are one.
+pub fn stamps_are_unique()
+    ensures kept { StampingKeepsStamped }
+    ensures one { StampedListsAreOne }
+{}
+
+/// No session's recording, and so none of the ticks that it keeps, depends on ticks that are for
+/// another session.
+pub fn other_ticks_do_not_matter()
+    ensures recording { RecordingsAreTheirOwn }
+    ensures kept { KeptTicksAreTheirOwn }
+{}
+
+/// A tick that counts is a hit of just one node: the hits of all nodes add up to the ticks that
+/// count.
+pub fn hits_are_the_hits_of_the_ticks()
+    ensures { HitsAddUp }
+{}
+
+/// No hit is at two lines: the ticks of a node's lines add up to no more than the node's hits.
+pub fn lines_add_up_to_no_more_than_the_hits()
+    ensures { LinesAreWithinHits }
+{}

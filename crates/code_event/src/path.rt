@@ -1,0 +1,21 @@
+// Paths: what a tick says of the functions on its stack.
+use crate::entry::Entry;
+use prof_base::Sequence;
+
+/// A step of a path, from the oldest function to the youngest.
+#[derive(Debug, Drop)]
+pub struct PathStep {
+    pub entry: Entry,
+    /// The line of the step before, where the mode tells callers' lines apart and there is one, else
+    /// 0.
+    pub call_line: u32,
+}
+
+/// The paths of a tick in both modes, oldest first.
+#[derive(Debug, Drop)]
+pub struct PathPair {
+    pub leaf: Sequence<PathStep>,
+    pub caller: Sequence<PathStep>,
+    /// The line at which the youngest function was, or 0 for none.
+    pub leaf_line: u32,
+}
