@@ -1,6 +1,6 @@
 -- What holds of each element of a list.
 use Rattle.std.proofs.Common.{◌≡◌, List, [], ◌∷◌, ◌++◌, refl}
-use Rattle.std.specs.Prelude.{Bool, true, false, cond, filter, map}
+use Rattle.std.specs.Prelude.{Bool, true, false, cond, filter}
 use Rattle.std.specs.List.{AllByRecursion}
 
 -- one more element in front, where it is kept
@@ -23,7 +23,3 @@ all_mapped P Q (x ∷ xs) each all = (each x all.0, all_mapped P Q xs each all.1
 pub all_pushed : {X : Type 0} (P : X → Type 0) (xs : List X) (y : X) → AllByRecursion P xs → P y → AllByRecursion P (xs ++ y ∷ [])
 all_pushed P [] y all last = (last, tt)
 all_pushed P (x ∷ xs) y all last = (all.0, all_pushed P xs y all.1 last)
-
-pub all_of_map : {X Y : Type 0} (P : Y → Type 0) (f : X → Y) (xs : List X) → ((x : X) → P (f x)) → AllByRecursion P (map f xs)
-all_of_map P f [] each = tt
-all_of_map P f (x ∷ xs) each = (each x, all_of_map P f xs each)

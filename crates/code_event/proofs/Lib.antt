@@ -1,10 +1,13 @@
 pub mod Counts
 pub mod Disjoint
 pub mod EachElement
-pub mod HitLines
-pub mod HitSums
 pub mod LoneUnit
-pub mod NodeSets
 pub mod OwnTicks
-pub mod PathOrder
 pub mod Stamping
+pub mod TreeChildren
+pub mod TreeHits
+pub mod TreeIds
+pub mod TreeNodes
+pub mod TreeOrder
+pub mod TreeParents
+pub mod TreePaths

@@ -1,17 +1,15 @@
 -- What holds of the definitions for all that may come.
-use Rattle.std.specs.Prelude.{◌≡◌, ◌≤◌, ℕ, List, [], ◌∷◌, Bool, true, false, Option, option_map, filter, sum_by, count_by}
+use Rattle.std.specs.Prelude.{◌≡◌, ◌≤◌, ℕ, List, [], ◌∷◌, Bool, true, false, Option, option_map, filter, count_by}
 use Rattle.std.specs.List.{AllByRecursion}
-use Rattle.code_event.specs.CodeRanges.{Reasons, meets, ranges}
+use Rattle.code_event.specs.CodeRanges.{meets, ranges}
 use Rattle.code_event.specs.ItemList.{IsStamped, stamped}
 use Rattle.code_event.specs.KeptTicks.{is_for, kept, recording}
 use Rattle.code_event.specs.Seen.{Seen, started, stopped, finished, ticked}
 use Rattle.code_event.specs.Steps.{holds}
-use Rattle.code_event.specs.Tree.{fin_nodes}
 use Rattle.code_event.specs.declared.event.CodeEvent.{CodeEvent}
 use Rattle.code_event.specs.declared.ranges.Range.{Range}
 use Rattle.code_event.specs.declared.seen.SeenTick.{SeenTick}
 use Rattle.code_event.specs.declared.tick.Item.{Item}
-use Rattle.code_event.specs.declared.tree.Visit.{Visit}
 
 -- no two of these ranges share an address: each meets none of those behind it
 abbrev pub AreDisjoint : List Range → Type 0
@@ -64,11 +62,3 @@ RecordingsAreTheirOwn = (session : ℕ) (seen : List Seen) → recording session
 -- so are the ticks that it keeps
 abbrev pub KeptTicksAreTheirOwn : Type 0
 KeptTicksAreTheirOwn = (base session : ℕ) (seen : List Seen) → kept_of base session (concerning session seen) ≡ kept_of base session seen
-
--- the hits of all nodes add up to the visits that count
-abbrev pub HitsAddUp : Type 0
-HitsAddUp = (visits : List Visit) (reasons : Reasons) → sum_by (λ node. node.hits) (fin_nodes visits reasons) ≡ count_by (λ visit. visit.hit) visits
-
--- the ticks of a node's lines add up to no more than its hits
-abbrev pub LinesAreWithinHits : Type 0
-LinesAreWithinHits = (visits : List Visit) (reasons : Reasons) → AllByRecursion (λ node. sum_by (λ line. line.ticks) node.lines ≤ node.hits) (fin_nodes visits reasons)

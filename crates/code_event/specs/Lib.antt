@@ -11,3 +11,4 @@ pub mod FileText
 pub mod ItemFile
 pub mod Examples
 pub mod Laws
+pub mod TreeLaws

@@ -1,5 +1,5 @@
 // Laws of the definitions, each the contract of a function that does nothing.
-ghost use Rattle.code_event.specs.Laws.{AddressesHaveOneOwner, HitsAddUp, KeptTicksAreTheirOwn, LinesAreWithinHits, MeetingIsMutual, RangesAreDisjoint, RecordingsAreTheirOwn, StampedListsAreOne, StampingGivesStamps, StampingKeepsStamped};
+ghost use Rattle.code_event.specs.Laws.{AddressesHaveOneOwner, KeptTicksAreTheirOwn, MeetingIsMutual, RangesAreDisjoint, RecordingsAreTheirOwn, StampedListsAreOne, StampingGivesStamps, StampingKeepsStamped};
 
 /// No two code objects ever share an address: none meets one that stands behind it, meeting goes both
 /// ways, and each address is in at most one.
@@ -26,15 +26,4 @@ pub fn stamps_are_unique()
 pub fn other_ticks_do_not_matter()
     ensures recording { RecordingsAreTheirOwn }
     ensures kept { KeptTicksAreTheirOwn }
-{}
-
-/// A tick that counts is a hit of just one node: the hits of all nodes add up to the ticks that
-/// count.
-pub fn hits_are_the_hits_of_the_ticks()
-    ensures { HitsAddUp }
-{}
-
-/// No hit is at two lines: the ticks of a node's lines add up to no more than the node's hits.
-pub fn lines_add_up_to_no_more_than_the_hits()
-    ensures { LinesAreWithinHits }
 {}

@@ -14,6 +14,7 @@ mod ranges;
 mod seen;
 mod tick;
 mod tree;
+mod tree_laws;
 
 pub use entry::Entry;
 pub use event::{Answer, CodeEvent, Command, EventRecord, Mode, Options, PortFile};
@@ -25,7 +26,6 @@ pub use examples::{
 pub use finished::{FinNode, Finished, LineTicks};
 pub use kept::{Begun, Recording};
 pub use laws::{
-    hits_are_the_hits_of_the_ticks, lines_add_up_to_no_more_than_the_hits,
     other_ticks_do_not_matter, ranges_are_disjoint, stamping_gives_stamps, stamps_are_unique,
 };
 pub use layout::{Layout, Site, Slot, Unit};
@@ -34,6 +34,11 @@ pub use ranges::Range;
 pub use seen::{Reason, Seen, SeenTick, Step};
 pub use tick::{Frames, Item, Tick, VmState};
 pub use tree::Visit;
+pub use tree_laws::{
+    each_hit_is_at_one_line, each_hit_is_of_one_node, each_node_but_the_root_is_one_child,
+    each_sample_is_a_node, every_node_but_the_root_has_a_parent, ids_number_the_nodes,
+    nodes_begin_the_paths, parents_come_first, the_root_comes_first,
+};
 
 #[cfg(test)]
 mod tests;
