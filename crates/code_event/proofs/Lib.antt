@@ -1,7 +1,6 @@
 pub mod Counts
 pub mod Disjoint
 pub mod EachElement
-pub mod LoneUnit
 pub mod OwnTicks
 pub mod Stamping
 pub mod TreeChildren
@@ -11,3 +10,4 @@ pub mod TreeNodes
 pub mod TreeOrder
 pub mod TreeParents
 pub mod TreePaths
+pub mod UnitsAbove

@@ -12,3 +12,4 @@ pub mod ItemFile
 pub mod Examples
 pub mod Laws
 pub mod TreeLaws
+pub mod Moments

@@ -9,9 +9,12 @@ mod finished;
 mod kept;
 mod laws;
 mod layout;
+mod moment;
 mod path;
 mod ranges;
+mod reasons;
 mod seen;
+mod steps;
 mod tick;
 mod tree;
 mod tree_laws;
@@ -29,6 +32,7 @@ pub use laws::{
     other_ticks_do_not_matter, ranges_are_disjoint, stamping_gives_stamps, stamps_are_unique,
 };
 pub use layout::{Layout, Site, Slot, Unit};
+pub use moment::seen_items;
 pub use path::{PathPair, PathStep};
 pub use ranges::Range;
 pub use seen::{Reason, Seen, SeenTick, Step};

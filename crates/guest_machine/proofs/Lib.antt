@@ -1,0 +1,4 @@
+mod Ends
+mod Kept
+mod InBody
+mod Registers

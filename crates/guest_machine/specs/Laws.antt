@@ -1,0 +1,49 @@
+-- What holds of the plain machine, whatever its program and however many its steps.
+use Rattle.std.specs.Prelude.{◌≡◌, ℕ, ◌+◌, ◌^◌, ◌<◌, ◌≤◌, List, length, true, false, is_some}
+use Rattle.std.specs.List.{AllByRecursion}
+use Rattle.guest_text.specs.InlinedSize.{body_of}
+use Rattle.guest_text.specs.Program.{IsProgram}
+use Rattle.guest_text.specs.declared.instr.Func.{Func}
+use Rattle.guest_machine.specs.PlainMachine.{Frame, plain, deopts, instr_of}
+
+-- where the machine has ended after so many steps, it is the same after any more
+abbrev pub EndsAreFinal : Type 0
+EndsAreFinal = (funcs : List Func) (steps more : ℕ) → is_some (plain funcs steps).ended ≡ true → plain funcs (steps + more) ≡ plain funcs steps
+
+-- where the machine has ended, the next step makes no deoptimisation
+abbrev pub NoneIsGivenUpAtTheEnd : Type 0
+NoneIsGivenUpAtTheEnd = (funcs : List Func) (steps : ℕ) → is_some (plain funcs steps).ended ≡ true → deopts funcs steps ≡ false
+
+-- there is always a frame
+abbrev pub StacksAreNotEmpty : Type 0
+StacksAreNotEmpty = (funcs : List Func) (steps : ℕ) → 1 ≤ length (plain funcs steps).stack
+
+-- there are never more than 255 frames
+abbrev pub StacksAreSmall : Type 0
+StacksAreSmall = (funcs : List Func) (steps : ℕ) → length (plain funcs steps).stack ≤ 255
+
+-- there is always something said of each function, and of nothing else
+abbrev pub CodeIsOfFunctions : Type 0
+CodeIsOfFunctions = (funcs : List Func) (steps : ℕ) → length (plain funcs steps).code ≡ length funcs
+
+-- a frame of a function that there is, at one of its instructions
+pub record IsInBody (funcs : List Func) (frame : Frame) : Type 0 where
+  pub func : frame.func < length funcs
+  pub index : frame.index < length (body_of funcs frame.func)
+
+-- in a program, each frame is always at an instruction
+abbrev pub FramesAreInBodies : Type 0
+FramesAreInBodies = (funcs : List Func) (steps : ℕ) → IsProgram funcs → AllByRecursion (IsInBody funcs) (plain funcs steps).stack
+
+-- in a program, there is always an instruction for each frame
+abbrev pub FramesHaveInstructions : Type 0
+FramesHaveInstructions = (funcs : List Func) (steps : ℕ) → IsProgram funcs → AllByRecursion (λ frame. is_some (instr_of funcs frame) ≡ true) (plain funcs steps).stack
+
+-- eight registers, each of which fits 64 bits
+pub record HasRegisters (frame : Frame) : Type 0 where
+  pub eight : length frame.registers ≡ 8
+  pub each : AllByRecursion (λ number. number < 2 ^ 64) frame.registers
+
+-- each frame always has its eight registers
+abbrev pub FramesHaveRegisters : Type 0
+FramesHaveRegisters = (funcs : List Func) (steps : ℕ) → AllByRecursion HasRegisters (plain funcs steps).stack

@@ -1,0 +1,31 @@
+//! Laws of the plain machine. Each function does nothing: its contract is the law.
+ghost use Rattle.guest_machine.specs.Laws.{CodeIsOfFunctions, EndsAreFinal, FramesAreInBodies, FramesHaveInstructions, FramesHaveRegisters, NoneIsGivenUpAtTheEnd, StacksAreNotEmpty, StacksAreSmall};
+
+/// Once the machine has ended, no step changes it, and none makes a deoptimisation.
+pub fn nothing_follows_the_end()
+    ensures stays { EndsAreFinal }
+    ensures none_given_up { NoneIsGivenUpAtTheEnd }
+{}
+
+/// Whatever the program, and also after its end, there is a frame, and there are never more than 255.
+pub fn the_stack_has_1_to_255_frames()
+    ensures some { StacksAreNotEmpty }
+    ensures room { StacksAreSmall }
+{}
+
+/// What is said of code is always said of each function of the program, and of nothing else.
+pub fn code_is_said_of_each_function()
+    ensures { CodeIsOfFunctions }
+{}
+
+/// In a program that keeps the rules, each frame is always in a function that there is, at one of its
+/// instructions. So the machine never stands still for want of an operation.
+pub fn each_frame_is_in_its_body()
+    ensures in_body { FramesAreInBodies }
+    ensures instruction { FramesHaveInstructions }
+{}
+
+/// Each frame always has eight registers, and each register is less than 2^64, whatever the program.
+pub fn registers_are_below_two_to_the_64()
+    ensures { FramesHaveRegisters }
+{}
