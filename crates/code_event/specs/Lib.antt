@@ -13,3 +13,7 @@ pub mod Examples
 pub mod Laws
 pub mod TreeLaws
 pub mod Moments
+pub mod Ordered
+pub mod Sums
+pub mod Listed
+pub mod TextParts

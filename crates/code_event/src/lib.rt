@@ -11,6 +11,9 @@ mod laws;
 mod layout;
 mod moment;
 mod path;
+mod path_order;
+mod profile;
+mod profile_text;
 mod ranges;
 mod reasons;
 mod seen;
@@ -34,6 +37,8 @@ pub use laws::{
 pub use layout::{Layout, Site, Slot, Unit};
 pub use moment::seen_items;
 pub use path::{PathPair, PathStep};
+pub use profile::{file, finished_of};
+pub use profile_text::file_text;
 pub use ranges::Range;
 pub use seen::{Reason, Seen, SeenTick, Step};
 pub use tick::{Frames, Item, Tick, VmState};

@@ -2,7 +2,10 @@
 ghost use Rattle.std.specs.Prelude.{◌<◌, ◌≤◌, length};
 
 use super::{entry, plain_layout, slot};
-use crate::{CodeEvent, EventRecord, Frames, Item, Mode, Options, Seen, Tick, VmState, seen_items};
+use crate::{
+    CodeEvent, EventRecord, Frames, Item, Mode, Options, Seen, Tick, VmState, file, finished_of,
+    seen_items,
+};
 use prof_base::{FuncId, Micros, Sequence, SessionId};
 use std::alloc::{AllocError, Global};
 use std::test::Fail;
@@ -70,10 +73,8 @@ fn words(alloc: Global, seen: &Seen) -> Result<String, AllocError> {
     }
 }
 
-#[test]
-fn an_overlapped_function_is_nobodys(rt: HostRuntime) -> Result<(), Fail> {
-    let alloc = rt.alloc();
-    let session = SessionId(1);
+// The example: both functions, a session over three ticks, and its stop.
+fn overlap_items(alloc: Global, session: SessionId) -> Result<Sequence<Item>, Fail> {
     let options = Options {
         port: 0,
         interval: 1000,
@@ -94,6 +95,13 @@ fn an_overlapped_function_is_nobodys(rt: HostRuntime) -> Result<(), Fail> {
         session,
         time: Micros::new(40),
     }))?;
+    Ok(items)
+}
+
+#[test]
+fn an_overlapped_function_is_nobodys(rt: HostRuntime) -> Result<(), Fail> {
+    let alloc = rt.alloc();
+    let items = overlap_items(alloc, SessionId(1))?;
     let seen = seen_items(alloc, items.as_slice())?;
     let expected = [
         "started",
@@ -106,5 +114,28 @@ fn an_overlapped_function_is_nobodys(rt: HostRuntime) -> Result<(), Fail> {
     for (seen, expected) in seen.as_slice().iter().zip(expected) {
         assert_eq!(rt; words(alloc, seen)?.as_str(), expected);
     }
+    Ok(())
+}
+
+#[test]
+fn the_file_of_an_ended_session_is_given(rt: HostRuntime) -> Result<(), Fail> {
+    let alloc = rt.alloc();
+    let items = overlap_items(alloc, SessionId(1))?;
+    let seen = seen_items(alloc, items.as_slice())?;
+    let expected = concat!(
+        r#"{"nodes":[{"id":1,"callFrame":{"functionName":"(root)","scriptId":"0","url":"","#,
+        r#""lineNumber":-1,"columnNumber":-1},"hitCount":0,"children":[2,3]},"#,
+        r#"{"id":2,"callFrame":{"functionName":"(program)","scriptId":"0","url":"","#,
+        r#""lineNumber":-1,"columnNumber":-1},"hitCount":2},"#,
+        r#"{"id":3,"callFrame":{"functionName":"g","scriptId":"1","url":"a.js","#,
+        r#""lineNumber":4,"columnNumber":0},"hitCount":1,"positionTicks":[{"line":5,"ticks":1}]}],"#,
+        r#""startTime":0,"endTime":40,"samples":[2,3,2],"timeDeltas":[10,10,10]}"#,
+    );
+    match file(alloc, 1000, SessionId(1), seen.as_slice())? {
+        Some(text) => assert_eq!(rt; text.as_slice(), expected.as_bytes()),
+        None => assert!(rt; false),
+    }
+    let other = finished_of(alloc, 1000, SessionId(2), seen.as_slice())?;
+    assert!(rt; other.is_none());
     Ok(())
 }
