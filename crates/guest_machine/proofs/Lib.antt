@@ -1,4 +1,4 @@
-mod Ends
+pub mod Ends
 mod Kept
 mod InBody
 mod Registers

@@ -1,1 +1,4 @@
 pub mod Numbers
+mod Clock
+mod RunSchedules
+mod Returned

@@ -1,5 +1,10 @@
 pub mod Causes
+pub mod ClockLaws
 pub mod Command
 pub mod Ending
 pub mod Held
+pub mod RunSchedule
+pub mod Schedules
 pub mod Status
+pub mod StepClock
+pub mod Straight

@@ -1,17 +1,25 @@
 // The top call of the commands that need no thread.
-ghost use Rattle.std.specs.Prelude.{◌≡◌, ◌⊎◌, map, string_bytes};
+ghost use Rattle.std.specs.Prelude.{◌≡◌, ◌⊎◌, ◌≤◌, [], length, map, string_bytes};
+ghost use Rattle.std.specs.List.{AllByRecursion};
+ghost use Rattle.isolate.specs.Fits.{Fits};
 ghost use Rattle.prof_base.specs.Causes.{Rose};
+ghost use Rattle.record_text.specs.Schedule.{IsLegal};
 ghost use Rattle.prof_top.specs.Command.{IsCommand, NamesProgram};
 ghost use Rattle.prof_top.specs.Held.{LacksFile, HoldsUnreadable, MayReadProgram};
 ghost use Rattle.prof_top.specs.Ending.{status_of};
+ghost use Rattle.prof_top.specs.RunSchedule.{IsRunSchedule};
+ghost use Rattle.prof_top.specs.Schedules.{OfRun, IsHead, IsAfterRun, IsBeforeRun, HasSchedules};
 ghost use Rattle.prof_top.specs.Status.{IsStatus};
+ghost use Rattle.prof_top.specs.StepClock.{IsStepClock};
 ghost use Rattle.prof_top.specs.Causes.{IsEndedAs};
 
 use crate::ending::{Ending, tell};
 use crate::load::load;
-use crate::run::run;
+use crate::run::{Ran, run};
 use out_stream::OutputStream;
+use prof_base::Sequence;
 use prof_outer::{Depot, Sink};
+use record_text::Schedule;
 use std::alloc::Global;
 
 /// What a call hands back.
@@ -22,6 +30,9 @@ pub struct Outcome {
     /// one that could not be read, 5 for a stream or a sink that failed, 6 for want of memory, and
     /// 14 for a stream that aborted.
     pub status: u8,
+    /// The schedule of the run that took place: what came about in it, and when. There is none where
+    /// nothing ran, and may be none where memory was refused.
+    pub schedules: Sequence<Schedule>,
     /// The stream that was handed in.
     pub stream: Box<dyn OutputStream + Send>,
 }
@@ -34,7 +45,7 @@ pub(crate) fn once<D: Depot, S: OutputStream, O: Sink, E: Sink>(
     stream: &mut S,
     out: &mut O,
     err: &mut E,
-) -> Ending
+) -> Ran
     ensures ending { IsEndedAs (map string_bytes words.now)
         (record {
           held = D.held depot.old;
@@ -52,15 +63,23 @@ pub(crate) fn once<D: Depot, S: OutputStream, O: Sink, E: Sink>(
           stream_faults = S.stream_faults stream.new;
           out_faults = O.faults out.new;
         })
-        result }
-    ensures command { (status_of result ≡ 1) ⊎ ((status_of result ≡ 6) ⊎ IsCommand (map string_bytes words.now)) }
+        result.ending }
+    ensures command { (status_of result.ending ≡ 1) ⊎ ((status_of result.ending ≡ 6) ⊎ IsCommand (map string_bytes words.now)) }
+    ensures counted { HasSchedules result.ending (length result.schedules) }
+    ensures kept { AllByRecursion (λ schedule. OfRun (map string_bytes words.now) (D.held depot.old) (λ funcs every. IsRunSchedule funcs every schedule)) result.schedules }
     ensures held { D.held depot.new ≡ D.held depot.old }
 {
-    let ending = match load(alloc, words, depot) {
+    let ran = match load(alloc, words, depot) {
         Ok(loaded) => run(alloc, &loaded.program, loaded.every, stream, out),
-        Err(ending) => ending,
+        Err(ending) => Ran {
+            ending,
+            schedules: Sequence::new(alloc),
+        },
     };
-    tell(alloc, ending, err)
+    Ran {
+        ending: tell(alloc, ran.ending, err),
+        schedules: ran.schedules,
+    }
 }
 
 /// Does what the words of a command line say, and writes one line to `err` where the status is not
@@ -69,6 +88,7 @@ pub(crate) fn once<D: Depot, S: OutputStream, O: Sink, E: Sink>(
 /// `run PROG EVERY` reads the program under the name PROG, runs it under a clock that counts its
 /// steps as microseconds, with one session from the first step to the end, and takes a sample at
 /// each multiple of EVERY. It delivers the session's file to the stream and prints to `out`.
+#[tactic(auto, using(crate::proofs::Returned::legal_each, crate::proofs::Returned::fits_each, crate::proofs::Returned::head_each))]
 pub fn cpuprof_once<D: Depot, O: Sink, E: Sink>(
     alloc: Global,
     words: &[String],
@@ -95,13 +115,24 @@ pub fn cpuprof_once<D: Depot, O: Sink, E: Sink>(
     ensures write_fault { result.status ≡ 5 → Rose (stream_faults stream) (stream_faults result.stream) ⊎ Rose (O.faults out.old) (O.faults out.new) }
     ensures aborted { result.status ≡ 14 → Rose (aborts stream) (aborts result.stream) }
 
+    // The schedule of the run.
+    ensures ran { IsAfterRun result.status → length result.schedules ≡ 1 }
+    ensures stopped { IsBeforeRun result.status → result.schedules ≡ [] }
+    ensures one { length result.schedules ≤ 1 }
+    ensures legal { AllByRecursion IsLegal result.schedules }
+    ensures fits { AllByRecursion (λ schedule. OfRun (map string_bytes words.now) (D.held depot.old) (λ funcs every. Fits funcs schedule)) result.schedules }
+    ensures head { AllByRecursion (λ schedule. OfRun (map string_bytes words.now) (D.held depot.old) (λ funcs every. IsHead every schedule)) result.schedules }
+    ensures clock { (result.status ≡ 6) ⊎ AllByRecursion (λ schedule. OfRun (map string_bytes words.now) (D.held depot.old)
+        (λ funcs every. IsStepClock funcs every 1000000 1048576 schedule.entries)) result.schedules }
+
     // The depot's files stay.
     ensures held { D.held depot.new ≡ D.held depot.old }
 {
     let mut stream = stream;
-    let ending = once(alloc, words, depot, &mut stream, out, err);
+    let ran = once(alloc, words, depot, &mut stream, out, err);
     Outcome {
-        status: ending.status(),
+        status: ran.ending.status(),
+        schedules: ran.schedules,
         stream,
     }
 }

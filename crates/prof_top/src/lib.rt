@@ -3,6 +3,7 @@
 
 mod call;
 mod ending;
+mod laws;
 mod load;
 mod machine;
 mod profile;
@@ -11,6 +12,7 @@ mod run;
 mod words;
 
 pub use call::{Outcome, cpuprof_once};
+pub use laws::the_step_clock_keeps_the_rules;
 
 #[cfg(test)]
 mod tests;

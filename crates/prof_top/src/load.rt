@@ -1,6 +1,7 @@
 // The program that the words name, from its text in the depot.
 ghost use Rattle.std.specs.Prelude.{◌≡◌, ◌≤◌, IfOk, OnOk, IfErr, map, string_bytes};
 ghost use Rattle.prof_top.specs.Held.{MayRead};
+ghost use Rattle.prof_top.specs.Schedules.{IsProgramRead, IsLoaded};
 ghost use Rattle.prof_top.specs.Ending.{ending_of};
 ghost use Rattle.prof_top.specs.Causes.{IsUnreadAs, IsStoppedAs, IsRunnable};
 
@@ -35,6 +36,7 @@ pub(crate) struct Loaded {
 // The program under a name.
 fn program_under<D: Depot>(alloc: Global, depot: &mut D, name: &Text) -> Result<Program, Unread>
     ensures ok { OnOk result (MayRead (D.held depot.old) name.now) }
+    ensures read { IfOk result (λ program. IsProgramRead (D.held depot.old) name.now program) }
     ensures err { IfErr result (λ u. IsUnreadAs (D.held depot.old) name.now (D.misses depot.old) (D.misses depot.new) (D.read_faults depot.old) (D.read_faults depot.new) u) }
     ensures held { D.held depot.new ≡ D.held depot.old }
     ensures misses { D.misses depot.old ≤ D.misses depot.new }
@@ -72,7 +74,7 @@ pub(crate) fn load<D: Depot>(
     depot: &mut D,
 ) -> Result<Loaded, Ending>
     ensures ok { OnOk result (IsRunnable (map string_bytes words.now) (D.held depot.old)) }
-    ensures every { IfOk result (λ loaded. 1 ≤ loaded.every) }
+    ensures read { IfOk result (λ loaded. IsLoaded (map string_bytes words.now) (D.held depot.old) loaded.program loaded.every) }
     ensures err { IfErr result (λ ending. IsStoppedAs (map string_bytes words.now) (D.held depot.old) (D.misses depot.old) (D.misses depot.new) (D.read_faults depot.old) (D.read_faults depot.new) ending) }
     ensures held { D.held depot.new ≡ D.held depot.old }
     ensures misses { D.misses depot.old ≤ D.misses depot.new }

@@ -1,9 +1,13 @@
 // What no clause says yet: the file, the printed text and the line of error, byte for byte, and that
-// calls succeed.
+// calls succeed. And one schedule, written out.
+ghost use Rattle.std.specs.Prelude.{◌≤◌};
+
 use crate::call::{cpuprof_once, once};
+use code_event::{Mode, Options};
 use out_stream::{MemoryStream, OutputStream, SureStream};
-use prof_base::Text;
+use prof_base::{Micros, Text};
 use prof_outer::{MemoryDepot, MemorySink, Stored, SureDepot, SureSink};
+use record_text::{EndCause, ScheduleEntry, What};
 use std::alloc::{AllocError, Global};
 use std::process::Abort;
 use std::test::Fail;
@@ -16,6 +20,13 @@ const SMALLEST_FILE: &[u8] =
 // Samples before the steps 1, 2 and 3, at the lines 9, 4 and 9.
 const SAMPLED_FILE: &[u8] =
     b"{\"nodes\":[{\"id\":1,\"callFrame\":{\"functionName\":\"(root)\",\"scriptId\":\"0\",\"url\":\"\",\"lineNumber\":-1,\"columnNumber\":-1},\"hitCount\":0,\"children\":[2]},{\"id\":2,\"callFrame\":{\"functionName\":\"a\\\"b\",\"scriptId\":\"7\",\"url\":\"a.js\",\"lineNumber\":7,\"columnNumber\":8},\"hitCount\":3,\"positionTicks\":[{\"line\":4,\"ticks\":1},{\"line\":9,\"ticks\":2}]}],\"startTime\":0,\"endTime\":4,\"samples\":[2,2,2,2],\"timeDeltas\":[0,1,1,1]}";
+
+const TWO_STEPS: &[u8] = b"func main \"main\" \"a.js\" 1 1 1\n1 set r0 1\n2 halt\n";
+
+const TWO_STEPS_FILE: &[u8] =
+    b"{\"nodes\":[{\"id\":1,\"callFrame\":{\"functionName\":\"(root)\",\"scriptId\":\"0\",\"url\":\"\",\"lineNumber\":-1,\"columnNumber\":-1},\"hitCount\":0,\"children\":[2]},{\"id\":2,\"callFrame\":{\"functionName\":\"main\",\"scriptId\":\"1\",\"url\":\"a.js\",\"lineNumber\":0,\"columnNumber\":0},\"hitCount\":1,\"positionTicks\":[{\"line\":2,\"ticks\":1}]}],\"startTime\":0,\"endTime\":2,\"samples\":[2,2],\"timeDeltas\":[0,1]}";
+
+const TWO_STEPS_OUT: &[u8] = b"end halt 2\nsampled 1 dropped 0\nfile 1 362\n";
 
 const SMALLEST_OUT: &[u8] = b"end halt 1\nsampled 0 dropped 0\nfile 1 319\n";
 
@@ -74,8 +85,8 @@ fn check(rt: &impl Abort, alloc: Global, words: &[&str], case: &Case<'_>) -> Res
     let mut out = MemorySink::new(alloc, case.writes_fail.to_vec(alloc)?);
     let mut err = MemorySink::new(alloc, Vec::new(alloc));
     let words = strings(alloc, words)?;
-    let ending = once(alloc, &words, &mut depot, &mut stream, &mut out, &mut err);
-    assert_eq!(rt; ending.status(), case.status);
+    let ran = once(alloc, &words, &mut depot, &mut stream, &mut out, &mut err);
+    assert_eq!(rt; ran.ending.status(), case.status);
     assert_eq!(rt; out.bytes(), case.out);
     assert_eq!(rt; err.bytes(), case.err);
     assert_eq!(rt; stream.closed_parts().len(), case.parts);
@@ -198,8 +209,8 @@ fn file_of(rt: &impl Abort, alloc: Global, program: &[u8]) -> Result<Vec<u8>, Fa
     let mut out = SureSink::new(alloc);
     let mut err = SureSink::new(alloc);
     let words = strings(alloc, &["run", "p", "1"])?;
-    let ending = once(alloc, &words, &mut depot, &mut stream, &mut out, &mut err);
-    assert_eq!(rt; ending.status(), 0);
+    let ran = once(alloc, &words, &mut depot, &mut stream, &mut out, &mut err);
+    assert_eq!(rt; ran.ending.status(), 0);
     assert_eq!(rt; stream.closed_parts().len(), 1);
     Ok(stream.closed_parts()[0].to_vec(alloc)?)
 }
@@ -209,6 +220,8 @@ fn the_file_is_the_profile_of_the_run(rt: HostRuntime) -> Result<(), Fail> {
     let file = file_of(&rt, rt.alloc(), SMALLEST)?;
     assert_eq!(rt; file.as_slice(), SMALLEST_FILE);
     assert_eq!(rt; file.len(), 319);
+    let file = file_of(&rt, rt.alloc(), TWO_STEPS)?;
+    assert_eq!(rt; file.as_slice(), TWO_STEPS_FILE);
     let file = file_of(
         &rt,
         rt.alloc(),
@@ -218,10 +231,21 @@ fn the_file_is_the_profile_of_the_run(rt: HostRuntime) -> Result<(), Fail> {
     Ok(())
 }
 
+// What comes about at a step, which is the time too.
+fn at(step: u64, what: What) -> ScheduleEntry
+    requires { step ≤ 4096 }
+{
+    ScheduleEntry {
+        step,
+        time: Micros::new(step),
+        what,
+    }
+}
+
 #[test]
-fn a_boxed_stream_comes_back(rt: HostRuntime) -> Result<(), Fail> {
+fn a_boxed_stream_comes_back_with_the_schedule(rt: HostRuntime) -> Result<(), Fail> {
     let alloc = rt.alloc();
-    let mut depot = SureDepot::new(stored(alloc, SMALLEST)?);
+    let mut depot = SureDepot::new(stored(alloc, TWO_STEPS)?);
     let stream: Box<dyn OutputStream + Send> = Box::new(alloc, SureStream::new(alloc, 1))?;
     let mut out = SureSink::new(alloc);
     let mut err = SureSink::new(alloc);
@@ -229,7 +253,23 @@ fn a_boxed_stream_comes_back(rt: HostRuntime) -> Result<(), Fail> {
     let outcome = cpuprof_once(alloc, &words, &mut depot, stream, &mut out, &mut err);
     assert_eq!(rt; outcome.status, 0);
     assert_eq!(rt; outcome.stream.chunk_size(), 1);
-    assert_eq!(rt; out.bytes(), SMALLEST_OUT);
+    assert_eq!(rt; out.bytes(), TWO_STEPS_OUT);
     assert_eq!(rt; err.bytes(), b"".as_slice());
+    assert_eq!(rt; outcome.schedules.len(), 1);
+    let schedule = &outcome.schedules.as_slice()[0];
+    assert_eq!(rt; (schedule.base, schedule.ring), (1, 256));
+    assert_eq!(rt; (schedule.budget, schedule.limit), (1_000_000, 1_048_576));
+    let options = Options {
+        port: 0,
+        interval: 1,
+        mode: Mode::Leaf,
+        max_samples: None,
+    };
+    let entries = [
+        at(0, What::Start(options)),
+        at(1, What::Sampled),
+        at(2, What::End(EndCause::Halt)),
+    ];
+    assert_eq!(rt; schedule.entries.as_slice(), entries.as_slice());
     Ok(())
 }

@@ -1,0 +1,15 @@
+-- The schedule of a run.
+use Rattle.std.specs.Prelude.{ℕ, List}
+use Rattle.guest_text.specs.declared.instr.Func.{Func}
+use Rattle.isolate.specs.Fits.{Fits}
+use Rattle.record_text.specs.Schedule.{IsLegal}
+use Rattle.record_text.specs.declared.schedule.Schedule.{Schedule}
+use Rattle.prof_top.specs.Schedules.{IsHead}
+use Rattle.prof_top.specs.StepClock.{IsStepClock}
+
+-- what holds of the schedule of a run that samples every so many microseconds
+pub record IsRunSchedule (funcs : List Func) (every : ℕ) (schedule : Schedule) : Type 0 where
+  pub legal : IsLegal schedule
+  pub fits : Fits funcs schedule
+  pub head : IsHead every schedule
+  pub clock : IsStepClock funcs every 1000000 1048576 schedule.entries

@@ -1,0 +1,18 @@
+-- The plain machine in programs that go straight on to a halt.
+use Rattle.std.specs.Prelude.{ℕ, List, [], ◌∷◌, map, Bool, Some, None, if◌then◌else◌}
+use Rattle.guest_text.specs.declared.instr.Func.{Func}
+use Rattle.code_event.specs.declared.tick.VmState.TheVariants.{Js}
+use Rattle.guest_machine.specs.PlainMachine.{State, plain_code, main_of}
+use Rattle.guest_machine.specs.declared.ended.Ended.TheVariants.{Halt}
+
+-- one frame of `main`, at this index and with these registers; nothing else has happened but, it may be, the halt
+abbrev pub straight_state : List Func → ℕ → List ℕ → Bool → State
+straight_state funcs index registers halted =
+    record {
+      stack = record { func = main_of funcs; index = index; registers = registers } ∷ [];
+      state = Js;
+      rest = 0;
+      printed = [];
+      code = map plain_code funcs;
+      ended = if halted then Some Halt else None;
+    }

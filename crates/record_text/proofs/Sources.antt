@@ -1,0 +1,47 @@
+-- That the source interval is the greatest common divisor.
+use Rattle.std.proofs.Common.{◌≡◌, ℕ, zero, suc, ◌<◌, ◌%◌, List, [], ◌∷◌, ◌++◌, length, take, get_or, refl, ap, subst, sym, ◌+◌, arith}
+use Rattle.std.proofs.lemmas.Bool.{cond_both, eqb-true}
+use Rattle.std.proofs.lemmas.Bool.Decides.{nat_tests}
+use Rattle.std.proofs.lemmas.Nat.Gcd.{IsGcd-from_zero, IsGcd-from_mod, dvd-zero}
+use Rattle.std.proofs.Math.Nat.{mod-lt}
+use Rattle.std.proofs.lemmas.List.{append_assoc, append-nil, take_all, get_or_push}
+use Rattle.std.proofs.Math.Seq.{take-append_seam}
+use Rattle.std.proofs.lemmas.List.{length-append}
+use Rattle.std.specs.Prelude.{false, ◌==◌}
+use Rattle.std.specs.Int.{IsGcd}
+use Rattle.prof_base.proofs.Intervals.{source_of_next}
+use Rattle.prof_base.specs.Interval.{rounded_of, IsSourceInterval}
+use Rattle.record_text.specs.Source.{gcd_within, gcd, source_with, SourcesAreGreatest}
+
+above_zero : (b : ℕ) → (b == 0) ≡ false → 0 < b
+above_zero b some = grind (arith, nat_tests)
+
+gcd_is : (times a b : ℕ) → b < times → IsGcd a b (gcd_within times a b)
+gcd_is zero a b enough = absurd (omega arith)
+gcd_is (suc times) a b enough =
+    cond_both (b == 0) a (gcd_within times b (a % b)) (IsGcd a b)
+    (λ none. IsGcd-from_zero a b (eqb-true b 0 none))
+    (λ some. let smaller : a % b < b = mod-lt a (above_zero b some) in
+        let less : a % b < times = omega arith in
+        IsGcd-from_mod a b (gcd_within times b (a % b)) (gcd_is times b (a % b) less))
+
+-- one interval more
+source_of_more : (base interval source next : ℕ) (front : List ℕ) → IsSourceInterval base front source → IsGcd source (rounded_of base interval) next → IsSourceInterval base (front ++ interval ∷ []) next
+source_of_more base interval source next front is divides =
+    let longer = front ++ interval ∷ [] in
+    let size : length longer ≡ length front + 1 = length-append front (interval ∷ []) in
+    let before : IsSourceInterval base (take (length front) longer) source = subst (λ xs. IsSourceInterval base xs source) (sym (take-append_seam front (interval ∷ []))) is in
+    let rounded : rounded_of base interval ≡ rounded_of base (get_or longer (length front) 0) = ap (rounded_of base) (sym (get_or_push front interval 0 (length front) refl)) in
+    subst (λ xs. IsSourceInterval base xs next) (take_all (length front + 1) longer (omega (arith, size)))
+    (source_of_next base (length front) source (rounded_of base interval) next longer (omega (arith, size)) before divides rounded)
+
+source_is : (base source : ℕ) (front intervals : List ℕ) → IsSourceInterval base front source → IsSourceInterval base (front ++ intervals) (source_with base source intervals)
+source_is base source front [] is = subst (λ xs. IsSourceInterval base xs source) (sym (append-nil front)) is
+source_is base source front (interval ∷ intervals) is =
+    let rounded = rounded_of base interval in
+    let next = gcd source rounded in
+    let more : IsSourceInterval base (front ++ interval ∷ []) next = source_of_more base interval source next front is (gcd_is (suc rounded) source rounded (omega arith)) in
+    subst (λ xs. IsSourceInterval base xs (source_with base next intervals)) (append_assoc front (interval ∷ []) intervals) (source_is base next (front ++ interval ∷ []) intervals more)
+
+pub sources_are_greatest : SourcesAreGreatest
+sources_are_greatest base intervals = source_is base 0 [] intervals (record { common = tt; greatest = λ d h. dvd-zero d })

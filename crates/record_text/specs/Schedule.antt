@@ -1,0 +1,119 @@
+-- The rules of a schedule: each entry is held against all entries before it.
+use Rattle.std.specs.Prelude.{◌≡◌, ℕ, suc, ◌<◌, ◌≤◌, List, [], ◌∷◌, ◌++◌, length, filter, count_by, Contains, Bool, true, false, not, ◌||◌, ◌==◌, Option, Some, None}
+use Rattle.std.specs.List.{AllByRecursion}
+use Rattle.record_text.specs.declared.schedule.EndCause.{EndCause}
+use Rattle.record_text.specs.declared.schedule.EndCause.TheVariants as cause
+use Rattle.record_text.specs.declared.schedule.What.{What}
+use Rattle.record_text.specs.declared.schedule.What.TheVariants.{Sampled, Dropped, Start, Stop, End}
+use Rattle.record_text.specs.declared.schedule.ScheduleEntry.{ScheduleEntry}
+use Rattle.record_text.specs.declared.schedule.Schedule.{Schedule}
+
+-- a session that runs: its number, the port that started it, and its interval
+pub record Running : Type 0 where
+  pub session : ℕ
+  pub port : ℕ
+  pub interval : ℕ
+
+-- how many sessions were started, and those that run, by rising number
+pub record Course : Type 0 where
+  pub started : ℕ
+  pub running : List Running
+
+-- what an entry makes of the sessions; they are numbered by their starts, from 1
+abbrev pub course_after : Course → What → Course
+course_after course (Start options) =
+    record {
+      started = suc course.started;
+      running = course.running ++ record { session = suc course.started; port = options.port; interval = options.interval } ∷ [];
+    }
+course_after course (Stop port session) = record course { running = filter (λ running. not (running.session == session.0)) course.running }
+course_after course other = course
+
+abbrev pub course_on : Course → List ScheduleEntry → Course
+course_on course [] = course
+course_on course (entry ∷ entries) = course_on (course_after course entry.what) entries
+
+-- the sessions that run after these entries
+abbrev pub running_after : List ScheduleEntry → List Running
+running_after entries = (course_on (record { started = 0; running = [] }) entries).running
+
+-- an entry was to be a sample
+abbrev pub is_sample : What → Bool
+is_sample Sampled = true
+is_sample Dropped = true
+is_sample other = false
+
+abbrev pub is_sampled : What → Bool
+is_sampled Sampled = true
+is_sampled other = false
+
+abbrev pub is_end : What → Bool
+is_end (End cause) = true
+is_end other = false
+
+-- the port that a command came from
+abbrev pub port_of : What → Option ℕ
+port_of (Start options) = Some options.port
+port_of (Stop port session) = Some port
+port_of other = None
+
+-- the rule Order, of an entry and one before it: neither step nor time falls, nothing stands behind an end, only an end stands behind a sample of its step, and of one step the commands stand by rising port
+pub record MayStandBehind (entry before : ScheduleEntry) : Type 0 where
+  pub step : before.step ≤ entry.step
+  pub time : before.time ≤ entry.time
+  pub going_on : is_end before.what ≡ false
+  pub one_sample : before.step ≡ entry.step → is_sample before.what ≡ true → is_end entry.what ≡ true
+  pub ports : (earlier later : ℕ) → before.step ≡ entry.step → port_of before.what ≡ Some earlier → port_of entry.what ≡ Some later → earlier ≤ later
+
+abbrev pub IsInOrder : List ScheduleEntry → ScheduleEntry → Type 0
+IsInOrder before entry = AllByRecursion (MayStandBehind entry) before
+
+-- the rule Session, while these run: a sample is for some session, at most 100 run, and a session is stopped while it runs, by its own port
+abbrev pub HasSession : List Running → What → Type 0
+HasSession running Sampled = 1 ≤ length running
+HasSession running Dropped = 1 ≤ length running
+HasSession running (Start options) = length running < 100
+HasSession running (Stop port session) = (interval : ℕ) × Contains running (record { session = session.0; port = port; interval = interval })
+HasSession running (End cause) = Unit {0}
+
+-- the last of these entries is at this step
+abbrev pub IsAtLastStep : List ScheduleEntry → ℕ → Type 0
+IsAtLastStep [] step = Unit {0}
+IsAtLastStep (entry ∷ []) step = entry.step ≡ step
+IsAtLastStep (entry ∷ next ∷ entries) step = IsAtLastStep (next ∷ entries) step
+
+-- the rule Limit of an entry with this number that is no end: there is room for an end behind it, and it is within the budget
+abbrev pub LeavesRoom : Schedule → ℕ → ℕ → Type 0
+LeavesRoom schedule number step = (number < schedule.limit) × (step < schedule.budget)
+
+-- the rule Limit of an end with this number: it is `full` just where it takes the last place, and then it is at the step before it; it is `budget` only where the steps have reached the budget
+abbrev pub IsEndWithin : Schedule → List ScheduleEntry → ℕ → ℕ → EndCause → Type 0
+IsEndWithin schedule before number step cause.Full = (number ≡ schedule.limit) × IsAtLastStep before step × (step ≤ schedule.budget)
+IsEndWithin schedule before number step cause.Budget = (number < schedule.limit) × (step ≡ schedule.budget)
+IsEndWithin schedule before number step other = (number < schedule.limit) × (step ≤ schedule.budget)
+
+-- the rule Limit: before a sample is dropped, at least as many were taken as the ring has places
+abbrev pub IsWithinLimits : Schedule → List ScheduleEntry → ℕ → What → Type 0
+IsWithinLimits schedule before step Dropped = LeavesRoom schedule (suc (length before)) step × (schedule.ring ≤ count_by (λ entry. is_sampled entry.what) before)
+IsWithinLimits schedule before step (End cause) = IsEndWithin schedule before (suc (length before)) step cause
+IsWithinLimits schedule before step other = LeavesRoom schedule (suc (length before)) step
+
+-- an entry keeps the rules behind these
+pub record MayFollow (schedule : Schedule) (before : List ScheduleEntry) (entry : ScheduleEntry) : Type 0 where
+  pub order : IsInOrder before entry
+  pub session : HasSession (running_after before) entry.what
+  pub limit : IsWithinLimits schedule before entry.step entry.what
+
+-- each of these entries keeps the rules behind those before it, the first behind `before`
+abbrev pub EachMayFollow : Schedule → List ScheduleEntry → List ScheduleEntry → Type 0
+EachMayFollow schedule before [] = Unit {0}
+EachMayFollow schedule before (entry ∷ entries) = MayFollow schedule before entry × EachMayFollow schedule (before ++ entry ∷ []) entries
+
+abbrev pub has_end : List ScheduleEntry → Bool
+has_end [] = false
+has_end (entry ∷ entries) = is_end entry.what || has_end entries
+
+-- a schedule that keeps the rules Order, Session and Limit
+pub record IsLegal (schedule : Schedule) : Type 0 where
+  pub each : EachMayFollow schedule [] schedule.entries
+  pub ended : has_end schedule.entries ≡ true

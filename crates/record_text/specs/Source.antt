@@ -1,0 +1,31 @@
+-- The interval at which samples are taken for the sessions that run.
+use Rattle.std.specs.Prelude.{ℕ, zero, suc, ◌%◌, List, [], ◌∷◌, map, take, ◌==◌, if◌then◌else◌}
+use Rattle.prof_base.specs.Interval.{rounded_of, IsSourceInterval}
+use Rattle.record_text.specs.declared.schedule.Schedule.{Schedule}
+use Rattle.record_text.specs.Schedule.{running_after}
+
+-- Euclid's remainders, so many at most
+abbrev pub gcd_within : ℕ → ℕ → ℕ → ℕ
+gcd_within zero a b = a
+gcd_within (suc times) a b = if b == 0 then a else gcd_within times b (a % b)
+
+-- the greatest common divisor
+abbrev pub gcd : ℕ → ℕ → ℕ
+gcd a b = gcd_within (suc b) a b
+
+-- the greatest common divisor of a number and the rounded intervals
+abbrev pub source_with : ℕ → ℕ → List ℕ → ℕ
+source_with base source [] = source
+source_with base source (interval ∷ intervals) = source_with base (gcd source (rounded_of base interval)) intervals
+
+-- the greatest common divisor of the rounded intervals, 0 where there are none
+abbrev pub source_of : ℕ → List ℕ → ℕ
+source_of base intervals = source_with base 0 intervals
+
+-- the source interval after so many entries
+abbrev pub source_after : Schedule → ℕ → ℕ
+source_after schedule number = source_of schedule.base (map (λ running. running.interval) (running_after (take number schedule.entries)))
+
+-- it is the common divisor that every common divisor divides
+abbrev pub SourcesAreGreatest : Type 0
+SourcesAreGreatest = (base : ℕ) (intervals : List ℕ) → IsSourceInterval base intervals (source_of base intervals)
