@@ -2,7 +2,7 @@
 use Rattle.std.specs.Prelude.{ℕ, zero, suc, ◌%◌, List, [], ◌∷◌, map, take, ◌==◌, if◌then◌else◌}
 use Rattle.prof_base.specs.Interval.{rounded_of, IsSourceInterval}
 use Rattle.record_text.specs.declared.schedule.Schedule.{Schedule}
-use Rattle.record_text.specs.Schedule.{running_after}
+use Rattle.record_text.specs.Schedule.{Running, running_after}
 
 -- Euclid's remainders, so many at most
 abbrev pub gcd_within : ℕ → ℕ → ℕ → ℕ
@@ -22,9 +22,13 @@ source_with base source (interval ∷ intervals) = source_with base (gcd source 
 abbrev pub source_of : ℕ → List ℕ → ℕ
 source_of base intervals = source_with base 0 intervals
 
+-- the source interval of the sessions that run
+abbrev pub source_for : ℕ → List Running → ℕ
+source_for base running = source_of base (map (λ session. session.interval) running)
+
 -- the source interval after so many entries
 abbrev pub source_after : Schedule → ℕ → ℕ
-source_after schedule number = source_of schedule.base (map (λ running. running.interval) (running_after (take number schedule.entries)))
+source_after schedule number = source_for schedule.base (running_after (take number schedule.entries))
 
 -- it is the common divisor that every common divisor divides
 abbrev pub SourcesAreGreatest : Type 0
