@@ -22,8 +22,8 @@ gcd_is (suc times) a b enough =
     cond_both (b == 0) a (gcd_within times b (a % b)) (IsGcd a b)
     (λ none. IsGcd-from_zero a b (eqb-true b 0 none))
     (λ some. let smaller : a % b < b = mod-lt a (above_zero b some) in
-        let less : a % b < times = omega arith in
-        IsGcd-from_mod a b (gcd_within times b (a % b)) (gcd_is times b (a % b) less))
+    let less : a % b < times = omega arith in
+    IsGcd-from_mod a b (gcd_within times b (a % b)) (gcd_is times b (a % b) less))
 
 -- one interval more
 source_of_more : (base interval source next : ℕ) (front : List ℕ) → IsSourceInterval base front source → IsGcd source (rounded_of base interval) next → IsSourceInterval base (front ++ interval ∷ []) next

@@ -29,10 +29,7 @@ pub enum What {
     /// It started a session. Sessions are numbered by their starts, from 1.
     Start(Options),
     /// It stopped a session, which the port had started.
-    Stop {
-        port: u8,
-        session: SessionId,
-    },
+    Stop { port: u8, session: SessionId },
     /// It ended.
     End(EndCause),
 }
