@@ -15,7 +15,7 @@ use Rattle.guest_machine.specs.Laws.{IsInBody, FramesAreInBodies, FramesHaveInst
 use Rattle.guest_machine.specs.PlainMachine.{Frame, plain, instr_of, main_of, main_from}
 
 -- what is read from a list is one of its elements
-got : {X : Type 0} (P : X → Type 0) (xs : List X) (index : ℕ) (x : X) → AllByRecursion P xs → slice_get xs index ≡ Some x → P x
+pub got : {X : Type 0} (P : X → Type 0) (xs : List X) (index : ℕ) (x : X) → AllByRecursion P xs → slice_get xs index ≡ Some x → P x
 got P [] index x all is = absurd (cc is)
 got P (y ∷ xs) zero x all is = let e : y ≡ x = cc is in subst P e all.0
 got P (y ∷ xs) (suc index) x all is = got P xs index x all.1 is

@@ -1,4 +1,4 @@
 pub mod Ends
 mod Kept
-mod InBody
+pub mod InBody
 mod Registers

@@ -73,7 +73,7 @@ sampled_at_its_budget = with_entries (started ∷ at 10 Sampled ∷ at 10 (End c
 abbrev pub falling_in_time : Schedule
 falling_in_time = with_entries (started ∷ at 1 Sampled ∷ record { step = 2; time = 0; what = End cause.Halt } ∷ [])
 
--- Two sessions, every 1,000 and every 1,500 microseconds, at base 1,000. The first is stopped.
+-- Two sessions, every 2,000 and every 2,500 microseconds, at base 1,000. The first is stopped.
 abbrev pub two_sessions : Schedule
 two_sessions =
     record {
@@ -82,8 +82,8 @@ two_sessions =
       budget = 10;
       limit = 5;
       entries =
-          at 0 (start_every 1000 (lit≤ tt) (lit≤ tt))
-          ∷ at 0 (start_every 1500 (lit≤ tt) (lit≤ tt))
+          at 0 (start_every 2000 (lit≤ tt) (lit≤ tt))
+          ∷ at 0 (start_every 2500 (lit≤ tt) (lit≤ tt))
           ∷ at 1 (Stop 0 (session 1))
           ∷ at 2 (End cause.Halt)
           ∷ [];

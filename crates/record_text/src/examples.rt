@@ -34,11 +34,11 @@ pub fn falling_times_and_stops_from_other_ports_are_not_legal()
     ensures other_port { ¬ IsLegal stopped_from_another_port }
 {}
 
-/// The source interval is that of the sessions that run, which are rounded to 1,000 and 2,000: none
+/// The source interval is that of the sessions that run, which are rounded to 2,000 and 3,000: none
 /// before the first entry, and the second's alone once the first is stopped.
 pub fn the_source_interval_is_that_of_the_sessions_that_run()
     ensures none { source_after two_sessions 0 ≡ 0 }
-    ensures first { source_after two_sessions 1 ≡ 1000 }
+    ensures first { source_after two_sessions 1 ≡ 2000 }
     ensures both { source_after two_sessions 2 ≡ 1000 }
-    ensures second { source_after two_sessions 3 ≡ 2000 }
+    ensures second { source_after two_sessions 3 ≡ 3000 }
 {}
