@@ -59,12 +59,12 @@ in_order step what entries earlier =
     })
     earlier
 
-course_on_more : (course : Course) (entries more : List ScheduleEntry) → course_on course (entries ++ more) ≡ course_on (course_on course entries) more
+pub course_on_more : (course : Course) (entries more : List ScheduleEntry) → course_on course (entries ++ more) ≡ course_on (course_on course entries) more
 course_on_more course [] more = refl
 course_on_more course (entry ∷ entries) more = course_on_more (course_after course entry.what) entries more
 
 -- samples change no session
-samples_start_none : (every step : ℕ) (course : Course) → course_on course (samples_before every step) ≡ course
+pub samples_start_none : (every step : ℕ) (course : Course) → course_on course (samples_before every step) ≡ course
 samples_start_none every zero course = refl
 samples_start_none every (suc step) course =
     cond_both (is_asked every step) (entry_at step Sampled ∷ []) [] (λ more. course_on course (samples_before every step ++ more) ≡ course)
@@ -234,7 +234,7 @@ record IsUpTo (moment : ℕ) (entry : ScheduleEntry) : Type 0 where
   pub time : entry.time ≤ moment
   pub no_end : is_end entry.what ≡ false
 
-last_pushed : (entries : List ScheduleEntry) (entry : ScheduleEntry) → last_step (entries ++ entry ∷ []) ≡ entry.step
+pub last_pushed : (entries : List ScheduleEntry) (entry : ScheduleEntry) → last_step (entries ++ entry ∷ []) ≡ entry.step
 last_pushed [] entry = refl
 last_pushed (first ∷ []) entry = refl
 last_pushed (first ∷ next ∷ entries) entry = last_pushed (next ∷ entries) entry

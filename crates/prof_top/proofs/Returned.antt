@@ -1,40 +1,54 @@
 -- What holds of each schedule that is returned.
-use Rattle.std.proofs.Common.{ℕ, List}
+use Rattle.std.proofs.Common.{◌≡◌, ◌⊎◌, inl, inr, ℕ, List, ap, sym, subst}
 use Rattle.std.specs.Prelude.{Option}
 use Rattle.std.specs.List.{AllByRecursion}
 use Rattle.guest_text.specs.declared.instr.Func.{Func}
 use Rattle.code_event.proofs.EachElement.{all_mapped}
-use Rattle.isolate.specs.Fits.{Fits}
+use Rattle.isolate.specs.PlainFile.{plain_files}
 use Rattle.prof_outer.specs.Files.{FileMap}
-use Rattle.record_text.specs.Schedule.{IsLegal}
 use Rattle.record_text.specs.declared.schedule.Schedule.{Schedule}
-use Rattle.prof_top.specs.RunSchedule.{IsRunSchedule}
-use Rattle.prof_top.specs.Schedules.{IsLoaded, OfRun, IsHead}
-use Rattle.prof_top.specs.StepClock.{IsStepClock}
+use Rattle.prof_top.proofs.Handed.{handed_at_last}
+use Rattle.prof_top.specs.Ending.{status_of}
+use Rattle.prof_top.specs.HandedOut.{Told, IsHandedOut}
+use Rattle.prof_top.specs.PrintedText.{printed_text}
+use Rattle.prof_top.specs.RunSchedule.{IsDone}
+use Rattle.prof_top.specs.Schedules.{IsLoaded, OfRun}
+use Rattle.prof_top.specs.declared.ending.Ending.{Ending}
+use Rattle.prof_top.specs.declared.ending.Ending.TheVariants.{Memory}
 
 -- a schedule of the run that the words ask for
-abbrev pub IsReturned : List (List ℕ) → Option FileMap → Schedule → Type 0
-IsReturned words held schedule = OfRun words held (λ funcs every. IsRunSchedule funcs every schedule)
+abbrev pub IsReturned : List (List ℕ) → Option FileMap → ℕ → Told → Told → Schedule → Type 0
+IsReturned words held status before now schedule = OfRun words held (λ funcs every. IsDone funcs every schedule status before now)
 
-pub returned : (words : List (List ℕ)) (held : Option FileMap) (funcs : List Func) (every : ℕ) (schedules : List Schedule) → IsLoaded words held funcs every
-    → AllByRecursion (IsRunSchedule funcs every) schedules → AllByRecursion (IsReturned words held) schedules
-returned words held funcs every schedules loaded kept =
-    all_mapped (IsRunSchedule funcs every) (IsReturned words held) schedules (λ schedule is. (funcs, every, loaded, is)) kept
+pub returned : (words : List (List ℕ)) (held : Option FileMap) (funcs : List Func) (every status : ℕ) (before now : Told) (schedules : List Schedule) → IsLoaded words held funcs every
+    → AllByRecursion (λ schedule. IsDone funcs every schedule status before now) schedules → AllByRecursion (IsReturned words held status before now) schedules
+returned words held funcs every status before now schedules loaded done =
+    all_mapped (λ schedule. IsDone funcs every schedule status before now) (IsReturned words held status before now) schedules (λ schedule is. (funcs, every, loaded, is)) done
 
-pub legal_each : (words : List (List ℕ)) (held : Option FileMap) (schedules : List Schedule) → AllByRecursion (IsReturned words held) schedules → AllByRecursion IsLegal schedules
-legal_each words held schedules kept = all_mapped (IsReturned words held) IsLegal schedules (λ schedule is. is.3.legal) kept
+-- only want of memory changes the status once the line of error was written
+pub last_status : (ending last : Ending) → (last ≡ ending) ⊎ (last ≡ Memory) → (status_of last ≡ status_of ending) ⊎ (status_of last ≡ 6)
+last_status ending last (inl same) = inl (ap status_of same)
+last_status ending last (inr memory) = inr (ap status_of memory)
 
-pub fits_each : (words : List (List ℕ)) (held : Option FileMap) (schedules : List Schedule) → AllByRecursion (IsReturned words held) schedules
-    → AllByRecursion (λ schedule. OfRun words held (λ funcs every. Fits funcs schedule)) schedules
-fits_each words held schedules kept =
-    all_mapped (IsReturned words held) (λ schedule. OfRun words held (λ funcs every. Fits funcs schedule)) schedules (λ schedule is. (is.0, is.1, is.2, is.3.fits)) kept
+-- the same once the line of error was written
+pub returned_at_last : (words : List (List ℕ)) (held : Option FileMap) (status last : ℕ) (before now : Told) (schedules : List Schedule) → (last ≡ status) ⊎ (last ≡ 6)
+    → AllByRecursion (IsReturned words held status before now) schedules → AllByRecursion (IsReturned words held last before now) schedules
+returned_at_last words held status last before now schedules how done =
+    all_mapped (IsReturned words held status before now) (IsReturned words held last before now) schedules
+    (λ schedule is. (is.0, is.1, is.2, record { run = is.3.run; handed = handed_at_last (plain_files is.0 schedule) (printed_text is.0 schedule) status last before now how is.3.handed })) done
 
-pub head_each : (words : List (List ℕ)) (held : Option FileMap) (schedules : List Schedule) → AllByRecursion (IsReturned words held) schedules
-    → AllByRecursion (λ schedule. OfRun words held (λ funcs every. IsHead every schedule)) schedules
-head_each words held schedules kept =
-    all_mapped (IsReturned words held) (λ schedule. OfRun words held (λ funcs every. IsHead every schedule)) schedules (λ schedule is. (is.0, is.1, is.2, is.3.head)) kept
+-- what holds of each run that is over, holds of each schedule
+pub each_of : (words : List (List ℕ)) (held : Option FileMap) (status : ℕ) (before now : Told) (schedules : List Schedule) (P : List Func → ℕ → Schedule → Type 0)
+    → ((funcs : List Func) (every : ℕ) (schedule : Schedule) → IsDone funcs every schedule status before now → P funcs every schedule)
+    → AllByRecursion (IsReturned words held status before now) schedules → AllByRecursion (λ schedule. OfRun words held (λ funcs every. P funcs every schedule)) schedules
+each_of words held status before now schedules P holds done =
+    all_mapped (IsReturned words held status before now) (λ schedule. OfRun words held (λ funcs every. P funcs every schedule)) schedules
+    (λ schedule is. (is.0, is.1, is.2, holds is.0 is.1 schedule is.3)) done
 
-pub clock_each : (words : List (List ℕ)) (held : Option FileMap) (schedules : List Schedule) → AllByRecursion (IsReturned words held) schedules
-    → AllByRecursion (λ schedule. OfRun words held (λ funcs every. IsStepClock funcs every 1000000 1048576 schedule.entries)) schedules
-clock_each words held schedules kept =
-    all_mapped (IsReturned words held) (λ schedule. OfRun words held (λ funcs every. IsStepClock funcs every 1000000 1048576 schedule.entries)) schedules (λ schedule is. (is.0, is.1, is.2, is.3.clock)) kept
+-- what has come out of each run, by the status of the call
+pub handed_each : (words : List (List ℕ)) (held : Option FileMap) (status number : ℕ) (before now : Told) (schedules : List Schedule) → number ≡ status
+    → AllByRecursion (IsReturned words held status before now) schedules
+    → AllByRecursion (λ schedule. OfRun words held (λ funcs every. IsHandedOut (plain_files funcs schedule) (printed_text funcs schedule) number before now)) schedules
+handed_each words held status number before now schedules same done =
+    each_of words held status before now schedules (λ funcs every schedule. IsHandedOut (plain_files funcs schedule) (printed_text funcs schedule) number before now)
+    (λ funcs every schedule is. subst (λ s. IsHandedOut (plain_files funcs schedule) (printed_text funcs schedule) s before now) (sym same) is.handed) done

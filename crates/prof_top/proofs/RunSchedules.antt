@@ -3,13 +3,13 @@ use Rattle.std.proofs.Common.{◌≡◌, ℕ, zero, suc, ◌-◌, ◌<◌, ◌�
 use Rattle.std.proofs.lemmas.Bool.{cond-false}
 use Rattle.std.proofs.lemmas.Bool.Decides.{nat_tests}
 use Rattle.std.proofs.lemmas.List.{length-append}
-use Rattle.std.specs.Prelude.{Bool, true, false, take, nat_le, if◌then◌else◌}
+use Rattle.std.specs.Prelude.{true, false, take, nat_le, if◌then◌else◌}
 use Rattle.guest_text.specs.declared.instr.Func.{Func}
 use Rattle.code_event.specs.declared.event.Options.{Options}
 use Rattle.guest_machine.specs.PlainMachine.{plain}
 use Rattle.isolate.specs.Fits.{IsGoing}
 use Rattle.record_text.specs.declared.schedule.EndCause.TheVariants as cause
-use Rattle.record_text.specs.declared.schedule.What.TheVariants.{Sampled, Start, End}
+use Rattle.record_text.specs.declared.schedule.What.TheVariants.{Sampled, End}
 use Rattle.record_text.specs.declared.schedule.ScheduleEntry.{ScheduleEntry}
 use Rattle.record_text.specs.declared.schedule.Schedule.{Schedule}
 use Rattle.prof_top.proofs.Clock.{few_more, clocks_are_legal, clocks_fit}
@@ -33,30 +33,25 @@ all_kept limit entries end room =
     (has_room limit (length entries) room))
 
 -- the machine has halted with the step that was the last
-halts_within : (funcs : List Func) (step index : ℕ) (registers : List ℕ) (halted : Bool) → halted ≡ true → step ≤ 4096 → IsGoing funcs (step - 1)
-    → straight_state funcs index registers halted ≡ plain funcs step → EndsWithin funcs 1000000 step cause.Halt
-halts_within funcs step index registers true halts few going state = (omega (arith, few), (going, ap (λ s. s.ended) (sym state)))
-halts_within funcs step index registers false halts few going state = absurd (cc halts)
+halts_within : (funcs : List Func) (step index : ℕ) (registers : List ℕ) → step ≤ 4096 → IsGoing funcs (step - 1)
+    → plain funcs step ≡ straight_state funcs index registers true → EndsWithin funcs 1000000 step cause.Halt
+halts_within funcs step index registers few going state = (omega (arith, few), (going, ap (λ s. s.ended) state))
 
-pub run_schedule : (funcs : List Func) (every step index : ℕ) (registers : List ℕ) (halted : Bool) (options : Options) (start end : ScheduleEntry) (initial before entries : List ScheduleEntry)
-    → halted ≡ true → step ≤ 4096 → IsGoing funcs (step - 1) → straight_state funcs index registers halted ≡ plain funcs step
-    → IsWholeRecording every options → start ≡ entry_at 0 (Start options) → initial ≡ start ∷ [] → before ≡ initial ++ samples_before every step
-    → end ≡ entry_at step (End cause.Halt) → entries ≡ before ++ end ∷ []
+pub run_schedule : (funcs : List Func) (every step index : ℕ) (registers : List ℕ) (options : Options) (entries : List ScheduleEntry)
+    → step ≤ 4096 → IsGoing funcs (step - 1) → plain funcs step ≡ straight_state funcs index registers true
+    → IsWholeRecording every options → entries ≡ entries_before options step ++ entry_at step (End cause.Halt) ∷ []
     → IsRunSchedule funcs every (record { base = every; ring = 256; budget = 1000000; limit = 1048576; entries = entries })
-run_schedule funcs every step index registers halted options start end initial before entries halts few going state recording starts first samples ends all =
+run_schedule funcs every step index registers options entries few going state recording all =
     let schedule : Schedule = record { base = every; ring = 256; budget = 1000000; limit = 1048576; entries = entries } in
-    let had : List ScheduleEntry = entries_before options step in
-    let same : before ≡ had = samples ∙ (ap (λ xs. xs ++ samples_before every step) first ∙ (ap (λ (entry : ScheduleEntry). entry ∷ samples_before every step) starts ∙ ap (λ n. entry_at 0 (Start options) ∷ samples_before n step) (sym recording.interval))) in
+    let had = entries_before options step in
     let room : length had < 1048576 - 1 = omega (arith, few_samples options.interval step, few) in
-    let made : entries ≡ with_end 1048576 had (entry_at step (End cause.Halt)) =
-    all ∙ (ap (λ (xs : List ScheduleEntry). xs ++ end ∷ []) same ∙ (ap (λ (entry : ScheduleEntry). had ++ entry ∷ []) ends ∙ all_kept 1048576 had (entry_at step (End cause.Halt)) room)) in
     let clock : IsStepClock funcs every 1000000 1048576 entries = record {
       options = options;
       recording = recording;
       step = step;
       cause = cause.Halt;
-      ends = halts_within funcs step index registers halted halts few going state;
-      made = made;
+      ends = halts_within funcs step index registers few going state;
+      made = all ∙ all_kept 1048576 had (entry_at step (End cause.Halt)) room;
     } in
     record {
       legal = clocks_are_legal funcs every schedule (lit≤ tt) (lit≤ tt) clock;

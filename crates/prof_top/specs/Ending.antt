@@ -65,6 +65,12 @@ run_ending (Err cut.Failed) (Ok u) = CannotWrite
 run_ending (Ok u) (Err sink.Failed) = CannotWrite
 run_ending (Ok u) (Ok v) = Done
 
+-- how a call ends, by how its line of error was written: only want of memory changes that
+abbrev pub told : Ending → Result (Unit {0}) SinkFault → Ending
+told ending (Err sink.Memory) = Memory
+told ending (Err sink.Failed) = ending
+told ending (Ok u) = ending
+
 -- a run ends so
 abbrev pub IsRunEnding : Ending → Type 0
 IsRunEnding Done = Unit {0}

@@ -2,8 +2,12 @@ pub mod Causes
 pub mod ClockLaws
 pub mod Command
 pub mod Ending
+pub mod HandedOut
 pub mod Held
+pub mod Log
+pub mod PrintedText
 pub mod RunSchedule
+pub mod Said
 pub mod Schedules
 pub mod Status
 pub mod StepClock

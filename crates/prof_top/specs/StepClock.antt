@@ -40,7 +40,7 @@ with_end limit entries end =
     then take (limit - 1) entries ++ entry_at (last_step (take (limit - 1) entries)) (End cause.Full) ∷ []
     else entries ++ end ∷ []
 
--- what `run` records: for port 0, with all samples, each at the one function that it is in
+-- what `run` records: for port 0, at this interval, in mode leaf and with all samples
 pub record IsWholeRecording (every : ℕ) (options : Options) : Type 0 where
   pub port : options.port ≡ 0
   pub interval : options.interval ≡ every

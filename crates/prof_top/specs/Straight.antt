@@ -1,8 +1,9 @@
 -- The plain machine in programs that go straight on to a halt.
-use Rattle.std.specs.Prelude.{ℕ, List, [], ◌∷◌, map, Bool, Some, None, if◌then◌else◌}
+use Rattle.std.specs.Prelude.{◌≡◌, ℕ, List, [], ◌∷◌, map, Bool, Some, None, if◌then◌else◌}
+use Rattle.std.specs.List.{slice_get}
 use Rattle.guest_text.specs.declared.instr.Func.{Func}
 use Rattle.code_event.specs.declared.tick.VmState.TheVariants.{Js}
-use Rattle.guest_machine.specs.PlainMachine.{State, plain_code, main_of}
+use Rattle.guest_machine.specs.PlainMachine.{State, plain, plain_code, main_of}
 use Rattle.guest_machine.specs.declared.ended.Ended.TheVariants.{Halt}
 
 -- one frame of `main`, at this index and with these registers; nothing else has happened but, it may be, the halt
@@ -16,3 +17,8 @@ straight_state funcs index registers halted =
       code = map plain_code funcs;
       ended = if halted then Some Halt else None;
     }
+
+-- the program's `main` is this function, and after so many steps the machine is so
+pub record IsAfter (funcs : List Func) (main : Func) (index : ℕ) (registers : List ℕ) (halted : Bool) (steps : ℕ) : Type 0 where
+  pub main_is : slice_get funcs (main_of funcs) ≡ Some main
+  pub state_is : plain funcs steps ≡ straight_state funcs index registers halted

@@ -2,12 +2,16 @@
 ghost use Rattle.std.specs.Prelude.{◌≡◌, ◌⊎◌, ◌≤◌, [], length, map, string_bytes};
 ghost use Rattle.std.specs.List.{AllByRecursion};
 ghost use Rattle.isolate.specs.Fits.{Fits};
+ghost use Rattle.isolate.specs.PlainFile.{plain_files};
 ghost use Rattle.prof_base.specs.Causes.{Rose};
 ghost use Rattle.record_text.specs.Schedule.{IsLegal};
 ghost use Rattle.prof_top.specs.Command.{IsCommand, NamesProgram};
 ghost use Rattle.prof_top.specs.Held.{LacksFile, HoldsUnreadable, MayReadProgram};
 ghost use Rattle.prof_top.specs.Ending.{status_of};
-ghost use Rattle.prof_top.specs.RunSchedule.{IsRunSchedule};
+ghost use Rattle.prof_top.specs.HandedOut.{IsHandedOut};
+ghost use Rattle.prof_top.specs.PrintedText.{printed_text};
+ghost use Rattle.prof_top.specs.RunSchedule.{IsDone};
+ghost use Rattle.prof_top.specs.Said.{IsNamed, IsSaid};
 ghost use Rattle.prof_top.specs.Schedules.{OfRun, IsHead, IsAfterRun, IsBeforeRun, HasSchedules};
 ghost use Rattle.prof_top.specs.Status.{IsStatus};
 ghost use Rattle.prof_top.specs.StepClock.{IsStepClock};
@@ -35,6 +39,66 @@ pub struct Outcome {
     pub schedules: Sequence<Schedule>,
     /// The stream that was handed in.
     pub stream: Box<dyn OutputStream + Send>,
+}
+
+// Loads and runs what the words ask for.
+fn load_and_run<D: Depot, S: OutputStream, O: Sink>(
+    alloc: Global,
+    words: &[String],
+    depot: &mut D,
+    stream: &mut S,
+    out: &mut O,
+) -> Ran
+    ensures ending { IsEndedAs (map string_bytes words.now)
+        (record {
+          held = D.held depot.old;
+          misses = D.misses depot.old;
+          read_faults = D.read_faults depot.old;
+          aborts = S.aborts stream.old;
+          stream_faults = S.stream_faults stream.old;
+          out_faults = O.faults out.old;
+        })
+        (record {
+          held = D.held depot.new;
+          misses = D.misses depot.new;
+          read_faults = D.read_faults depot.new;
+          aborts = S.aborts stream.new;
+          stream_faults = S.stream_faults stream.new;
+          out_faults = O.faults out.new;
+        })
+        result.ending }
+    ensures command { (status_of result.ending ≡ 1) ⊎ ((status_of result.ending ≡ 6) ⊎ IsCommand (map string_bytes words.now)) }
+    ensures named { IsNamed (map string_bytes words.now) result.ending }
+    ensures held { D.held depot.new ≡ D.held depot.old }
+
+    // The schedules, and what has come out.
+    ensures counted { HasSchedules result.ending (length result.schedules) }
+    ensures kept { AllByRecursion (λ schedule. OfRun (map string_bytes words.now) (D.held depot.old)
+        (λ funcs every. IsDone funcs every schedule (status_of result.ending)
+        (record {
+          parts = S.parts stream.old;
+          aborts = S.aborts stream.old;
+          stream_faults = S.stream_faults stream.old;
+          written = O.written out.old;
+          out_faults = O.faults out.old;
+        })
+        (record {
+          parts = S.parts stream.new;
+          aborts = S.aborts stream.new;
+          stream_faults = S.stream_faults stream.new;
+          written = O.written out.new;
+          out_faults = O.faults out.new;
+        }))) result.schedules }
+    ensures no_parts { result.schedules ≡ [] → S.parts stream.new ≡ S.parts stream.old }
+    ensures no_text { result.schedules ≡ [] → O.written out.new ≡ O.written out.old }
+{
+    match load(alloc, words, depot) {
+        Ok(loaded) => run(alloc, &loaded.program, loaded.every, stream, out),
+        Err(ending) => Ran {
+            ending,
+            schedules: Sequence::new(alloc),
+        },
+    }
 }
 
 /// Does what the words say over any stream, and says how that ended.
@@ -65,19 +129,34 @@ pub(crate) fn once<D: Depot, S: OutputStream, O: Sink, E: Sink>(
         })
         result.ending }
     ensures command { (status_of result.ending ≡ 1) ⊎ ((status_of result.ending ≡ 6) ⊎ IsCommand (map string_bytes words.now)) }
-    ensures counted { HasSchedules result.ending (length result.schedules) }
-    ensures kept { AllByRecursion (λ schedule. OfRun (map string_bytes words.now) (D.held depot.old) (λ funcs every. IsRunSchedule funcs every schedule)) result.schedules }
+    ensures said { IsSaid (map string_bytes words.now) (status_of result.ending) (E.written err.old) (E.written err.new) (E.faults err.old) (E.faults err.new) }
     ensures held { D.held depot.new ≡ D.held depot.old }
+
+    // The schedules, and what has come out.
+    ensures counted { HasSchedules result.ending (length result.schedules) }
+    ensures kept { AllByRecursion (λ schedule. OfRun (map string_bytes words.now) (D.held depot.old)
+        (λ funcs every. IsDone funcs every schedule (status_of result.ending)
+        (record {
+          parts = S.parts stream.old;
+          aborts = S.aborts stream.old;
+          stream_faults = S.stream_faults stream.old;
+          written = O.written out.old;
+          out_faults = O.faults out.old;
+        })
+        (record {
+          parts = S.parts stream.new;
+          aborts = S.aborts stream.new;
+          stream_faults = S.stream_faults stream.new;
+          written = O.written out.new;
+          out_faults = O.faults out.new;
+        }))) result.schedules }
+    ensures no_parts { result.schedules ≡ [] → S.parts stream.new ≡ S.parts stream.old }
+    ensures no_text { result.schedules ≡ [] → O.written out.new ≡ O.written out.old }
 {
-    let ran = match load(alloc, words, depot) {
-        Ok(loaded) => run(alloc, &loaded.program, loaded.every, stream, out),
-        Err(ending) => Ran {
-            ending,
-            schedules: Sequence::new(alloc),
-        },
-    };
+    let ran = load_and_run(alloc, words, depot, stream, out);
+    let ending = tell(alloc, ran.ending, err);
     Ran {
-        ending: tell(alloc, ran.ending, err),
+        ending,
         schedules: ran.schedules,
     }
 }
@@ -88,7 +167,6 @@ pub(crate) fn once<D: Depot, S: OutputStream, O: Sink, E: Sink>(
 /// `run PROG EVERY` reads the program under the name PROG, runs it under a clock that counts its
 /// steps as microseconds, with one session from the first step to the end, and takes a sample at
 /// each multiple of EVERY. It delivers the session's file to the stream and prints to `out`.
-#[tactic(auto, using(crate::proofs::Returned::legal_each, crate::proofs::Returned::fits_each, crate::proofs::Returned::head_each))]
 pub fn cpuprof_once<D: Depot, O: Sink, E: Sink>(
     alloc: Global,
     words: &[String],
@@ -124,6 +202,30 @@ pub fn cpuprof_once<D: Depot, O: Sink, E: Sink>(
     ensures head { AllByRecursion (λ schedule. OfRun (map string_bytes words.now) (D.held depot.old) (λ funcs every. IsHead every schedule)) result.schedules }
     ensures clock { (result.status ≡ 6) ⊎ AllByRecursion (λ schedule. OfRun (map string_bytes words.now) (D.held depot.old)
         (λ funcs every. IsStepClock funcs every 1000000 1048576 schedule.entries)) result.schedules }
+
+    // What has come out of the run: its files through the stream, its text through `out`. Nothing
+    // where nothing ran.
+    ensures handed { AllByRecursion (λ schedule. OfRun (map string_bytes words.now) (D.held depot.old)
+        (λ funcs every. IsHandedOut (plain_files funcs schedule) (printed_text funcs schedule) result.status
+        (record {
+          parts = parts stream;
+          aborts = aborts stream;
+          stream_faults = stream_faults stream;
+          written = O.written out.old;
+          out_faults = O.faults out.old;
+        })
+        (record {
+          parts = parts result.stream;
+          aborts = aborts result.stream;
+          stream_faults = stream_faults result.stream;
+          written = O.written out.new;
+          out_faults = O.faults out.new;
+        }))) result.schedules }
+    ensures no_parts { result.schedules ≡ [] → parts result.stream ≡ parts stream }
+    ensures no_text { result.schedules ≡ [] → O.written out.new ≡ O.written out.old }
+
+    // The line of error.
+    ensures said { IsSaid (map string_bytes words.now) result.status (E.written err.old) (E.written err.new) (E.faults err.old) (E.faults err.new) }
 
     // The depot's files stay.
     ensures held { D.held depot.new ≡ D.held depot.old }

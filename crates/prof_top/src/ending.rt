@@ -1,6 +1,9 @@
 // How a call ends: its status and its line of error.
-ghost use Rattle.std.specs.Prelude.{◌≡◌, ◌⊎◌, ◌≤◌, IfOk, string_bytes};
-ghost use Rattle.prof_top.specs.Ending.{status_of, cause_word, refused_line, line_of};
+ghost use Rattle.std.specs.Prelude.{◌≡◌, ◌⊎◌, ◌≤◌, IfOk, OnOk, IsErrOf, string_bytes};
+ghost use Rattle.prof_base.specs.Causes.{Rose};
+ghost use Rattle.prof_outer.specs.Told.{AppendsWhole, AppendsPart};
+ghost use Rattle.prof_top.specs.Ending.{status_of, cause_word, refused_line, line_of, told};
+ghost use Rattle.prof_top.specs.Said.{IsWritten};
 
 use guest_text::ProgramCause;
 use prof_base::Text;
@@ -106,20 +109,42 @@ impl Ending {
     }
 }
 
+// Writes the line of error, where there is one.
+fn say<E: Sink>(alloc: Global, ending: &Ending, err: &mut E) -> Result<(), SinkFault>
+    ensures ok { OnOk result (AppendsWhole (E.written err.old) (E.written err.new) (line_of ending.now)) }
+    ensures part { IsErrOf result SinkFault.Failed → AppendsPart (E.written err.old) (E.written err.new) (line_of ending.now) }
+    ensures memory { IsErrOf result SinkFault.Memory → E.written err.new ≡ E.written err.old }
+
+    // A fault has its count, and the count never falls.
+    ensures failed { IsErrOf result SinkFault.Failed → Rose (E.faults err.old) (E.faults err.new) }
+    ensures faults { E.faults err.old ≤ E.faults err.new }
+{
+    let Ok(line) = ending.line(alloc) else {
+        return Err(SinkFault::Memory);
+    };
+    if line.is_empty() {
+        return Ok(());
+    }
+    err.write_all(alloc, line.as_bytes())
+}
+
+// How the call ends, by how its line of error was written.
+fn told(ending: Ending, said: Result<(), SinkFault>) -> Ending
+    ensures { result ≡ told ending said }
+{
+    match said {
+        Err(SinkFault::Memory) => Ending::Memory,
+        Ok(()) | Err(SinkFault::Failed) => ending,
+    }
+}
+
 /// Tells how the call ends by its line on `err`, where there is one. A fault of `err` changes
 /// nothing; its want of memory is the call's.
 pub(crate) fn tell<E: Sink>(alloc: Global, ending: Ending, err: &mut E) -> Ending
     ensures told { (result ≡ ending) ⊎ (result ≡ Ending.Memory) }
+    ensures written { IsWritten (line_of result) (status_of result) (E.written err.old) (E.written err.new) (E.faults err.old) (E.faults err.new) }
     ensures faults { E.faults err.old ≤ E.faults err.new }
 {
-    let Ok(line) = ending.line(alloc) else {
-        return Ending::Memory;
-    };
-    if line.is_empty() {
-        return ending;
-    }
-    match err.write_all(alloc, line.as_bytes()) {
-        Err(SinkFault::Memory) => Ending::Memory,
-        Ok(()) | Err(SinkFault::Failed) => ending,
-    }
+    let said = say(alloc, &ending, err);
+    told(ending, said)
 }

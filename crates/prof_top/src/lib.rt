@@ -6,7 +6,7 @@ mod ending;
 mod laws;
 mod load;
 mod machine;
-mod profile;
+mod printing;
 mod recording;
 mod run;
 mod words;

@@ -1,6 +1,7 @@
 // The program that the words name, from its text in the depot.
 ghost use Rattle.std.specs.Prelude.{◌≡◌, ◌≤◌, IfOk, OnOk, IfErr, map, string_bytes};
 ghost use Rattle.prof_top.specs.Held.{MayRead};
+ghost use Rattle.prof_top.specs.Said.{IsNamed};
 ghost use Rattle.prof_top.specs.Schedules.{IsProgramRead, IsLoaded};
 ghost use Rattle.prof_top.specs.Ending.{ending_of};
 ghost use Rattle.prof_top.specs.Causes.{IsUnreadAs, IsStoppedAs, IsRunnable};
@@ -75,6 +76,7 @@ pub(crate) fn load<D: Depot>(
 ) -> Result<Loaded, Ending>
     ensures ok { OnOk result (IsRunnable (map string_bytes words.now) (D.held depot.old)) }
     ensures read { IfOk result (λ loaded. IsLoaded (map string_bytes words.now) (D.held depot.old) loaded.program loaded.every) }
+    ensures named { IfErr result (λ ending. IsNamed (map string_bytes words.now) ending) }
     ensures err { IfErr result (λ ending. IsStoppedAs (map string_bytes words.now) (D.held depot.old) (D.misses depot.old) (D.misses depot.new) (D.read_faults depot.old) (D.read_faults depot.new) ending) }
     ensures held { D.held depot.new ≡ D.held depot.old }
     ensures misses { D.misses depot.old ≤ D.misses depot.new }

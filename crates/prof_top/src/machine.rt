@@ -1,37 +1,52 @@
 // The guest at work, for programs that go straight on to a halt.
-ghost use Rattle.std.specs.Prelude.{◌≡◌, ◌<◌, ◌≤◌, ◌+◌, List, length, true, false, suc};
-ghost use Rattle.guest_text.specs.InlinedSize.{body_of};
+ghost use Rattle.std.specs.Prelude.{◌≡◌, ◌<◌, ◌≤◌, ℕ, List, length, false, suc, IfOk};
 ghost use Rattle.guest_text.specs.Straight.{IsStraight, IsStraightBody};
 ghost use Rattle.guest_text.specs.declared.instr.Func.{Func};
-ghost use Rattle.guest_machine.specs.PlainMachine.{main_of, start, step};
-ghost use Rattle.prof_top.specs.Straight.{straight_state};
+ghost use Rattle.guest_machine.specs.PlainMachine.{plain};
+ghost use Rattle.isolate.specs.PlainFile.{entry_of, plain_steps};
+ghost use Rattle.prof_top.specs.Straight.{IsAfter};
 
-use guest_text::{Instr, Op, Program};
+use code_event::{Entry, Step};
+use guest_text::{Func, Op, Program};
+use prof_base::{Memory, Sequence};
+use std::alloc::Global;
 
 /// A guest machine with one frame of `main`, whose body goes straight on to a halt.
 #[derive(Drop)]
 pub(crate) struct Machine<'a> {
-    body: &'a [Instr],
+    main: &'a Func,
     index: usize,
     registers: [u64; 8],
     has_halted: bool,
-    ghost within: { index < length body.now },
+    ghost within: { index < length main.now.body },
+}
+
+// What a profile names a function by.
+fn entry_of(func: &Func) -> Result<Entry, Memory>
+    ensures { IfOk result (λ entry. entry ≡ entry_of func.now) }
+{
+    Ok(Entry {
+        name: func.name.copy()?,
+        url: func.url.copy()?,
+        script: func.script,
+        line: func.line,
+        column: func.column,
+    })
 }
 
 impl<'a> Machine<'a> {
     /// The machine before its first step.
     pub(crate) fn new(program: &'a Program) -> Machine<'a>
         requires { IsStraight program.now }
-        ensures body { result.body.now ≡ body_of program.now (main_of program.now) }
-        ensures straight { IsStraightBody result.body.now }
-        ensures short { length result.body.now ≤ 4096 }
+        ensures straight { IsStraightBody result.main.now.body }
+        ensures short { length result.main.now.body ≤ 4096 }
         ensures going { result.has_halted ≡ false }
         ensures first { result.index ≡ 0 }
-        ensures state { straight_state program.now result.index result.registers result.has_halted ≡ start program.now }
+        ensures after { IsAfter program.now result.main.now result.index result.registers result.has_halted 0 }
     {
         let main = usize::from(program.main().0);
         Machine {
-            body: program.funcs()[main].body.as_slice(),
+            main: &program.funcs()[main],
             index: 0,
             registers: [0; 8],
             has_halted: false,
@@ -45,22 +60,31 @@ impl<'a> Machine<'a> {
         self.has_halted
     }
 
-    /// The line of the instruction that is next, or of the halt.
-    pub(crate) fn line(&self) -> u32 {
-        self.body[self.index].line
+    /// The functions on the stack, oldest first, each with the line at which it is.
+    pub(crate) fn steps(&self, alloc: Global) -> Result<Sequence<Step>, Memory>
+        ensures { IfOk result (λ found. (funcs : List Func) (steps : ℕ)
+            → IsAfter funcs self.now.main.now self.now.index self.now.registers self.now.has_halted steps
+            → found ≡ plain_steps funcs (plain funcs steps)) }
+    {
+        let mut steps = Sequence::new(alloc);
+        steps.push(Step {
+            entry: entry_of(self.main)?,
+            line: self.main.body.as_slice()[self.index].line,
+        })?;
+        Ok(steps)
     }
 
     /// Does the next instruction.
     pub(crate) fn step(&mut self)
         requires going { self.old.has_halted ≡ false }
-        requires straight { IsStraightBody self.old.body.now }
-        ensures body { self.new.body.now ≡ self.old.body.now }
+        requires straight { IsStraightBody self.old.main.now.body }
+        ensures main { self.new.main.now ≡ self.old.main.now }
         ensures on { self.new.has_halted ≡ false → self.new.index ≡ suc self.old.index }
-        ensures state { (funcs : List Func) → self.old.body.now ≡ body_of funcs (main_of funcs)
-            → straight_state funcs self.new.index self.new.registers self.new.has_halted
-            ≡ step funcs (straight_state funcs self.old.index self.old.registers self.old.has_halted) }
+        ensures after { (funcs : List Func) (steps : ℕ)
+            → IsAfter funcs self.old.main.now self.old.index self.old.registers self.old.has_halted steps
+            → IsAfter funcs self.new.main.now self.new.index self.new.registers self.new.has_halted (suc steps) }
     {
-        match &self.body[self.index].op {
+        match &self.main.body.as_slice()[self.index].op {
             Op::Set(register, number) => {
                 self.registers[usize::from(register.number())] = *number;
                 self.index += 1;

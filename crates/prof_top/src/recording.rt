@@ -1,16 +1,20 @@
-// The step clock: a run that reads its steps as microseconds, with what comes about in it.
-ghost use Rattle.std.specs.Prelude.{◌≡◌, ◌≤◌, ◌<◌, ◌+◌, ◌++◌, ◌∷◌, [], ◌^◌, length, OnOk, IfOk, if◌then◌else◌};
+// The step clock: a run that reads its steps as microseconds, with what comes about in it and what its
+// session sees.
+ghost use Rattle.std.specs.Prelude.{◌≡◌, ◌≤◌, ◌<◌, ◌++◌, ◌∷◌, [], ◌^◌, ℕ, List, Bool, true, false, Some, None, map, suc, OnOk, IfOk, if◌then◌else◌};
 ghost use Rattle.guest_text.specs.Straight.{IsStraight};
-ghost use Rattle.isolate.specs.Fits.{Fits};
-ghost use Rattle.record_text.specs.Schedule.{IsLegal};
+ghost use Rattle.guest_text.specs.declared.instr.Func.{Func};
+ghost use Rattle.code_event.specs.CodeRanges.{no_reasons};
+ghost use Rattle.code_event.specs.Seen.{seen_by, started, finished};
+ghost use Rattle.isolate.specs.PlainFile.{tick_at, seen_run};
 ghost use Rattle.record_text.specs.declared.schedule.What.TheVariants.{Sampled};
-ghost use Rattle.prof_top.specs.RunSchedule.{IsRunSchedule};
-ghost use Rattle.prof_top.specs.StepClock.{entry_at, is_asked, IsWholeRecording, IsStepClock};
+ghost use Rattle.prof_top.specs.Log.{IsLog, HaltsAt, IsRecorded};
+ghost use Rattle.prof_top.specs.StepClock.{entry_at, is_asked, IsWholeRecording};
+ghost use Rattle.prof_top.specs.Straight.{IsAfter};
 
 use crate::machine::Machine;
-use code_event::{Mode, Options};
+use code_event::{Mode, Options, Seen, SeenTick};
 use guest_text::Program;
-use prof_base::{MAX_INTERVAL, Memory, Micros, Sequence};
+use prof_base::{MAX_INTERVAL, Memory, Micros, Sequence, SessionId};
 use record_text::{EndCause, Schedule, ScheduleEntry, What};
 use std::alloc::Global;
 
@@ -23,22 +27,15 @@ const BUDGET: u64 = 1_000_000;
 /// The greatest number of entries of a schedule.
 const ENTRIES: u32 = 1_048_576;
 
-/// A sample of the guest: when it was taken, and the line that was next.
-#[derive(Clone, Copy, Debug, PartialEq, Eq)]
-pub(crate) struct Sample {
-    /// Steps since the start, which the step clock reads as microseconds.
-    pub(crate) time: u64,
-    pub(crate) line: u32,
-}
+/// The one session of a run.
+pub(crate) const SESSION: SessionId = SessionId(1);
 
 /// A run of a program, with one session from its first step to its end.
 #[derive(Debug, Drop)]
 pub(crate) struct Recording {
-    /// The samples in the order in which they were taken.
-    pub(crate) samples: Vec<Sample>,
-    /// How many steps the guest did, its last one included.
-    pub(crate) end: u64,
     pub(crate) schedule: Schedule,
+    /// What the session sees.
+    pub(crate) seen: Sequence<Seen>,
 }
 
 // The step clock asks for a sample at each multiple of the interval, from the first one on.
@@ -54,11 +51,8 @@ fn entry_at(step: u64, what: What) -> ScheduleEntry
     requires { step < 2 ^ 53 }
     ensures { result ≡ entry_at step what }
 {
-    ScheduleEntry {
-        step,
-        time: Micros::new(step),
-        what,
-    }
+    let time = Micros::new(step);
+    ScheduleEntry { step, time, what }
 }
 
 // What the one session records.
@@ -75,26 +69,105 @@ fn whole_recording(every: u32) -> Options
     }
 }
 
+// A tick of the machine after so many steps, which are the time too.
+fn tick_at(
+    alloc: Global,
+    machine: &Machine<'_>,
+    step: u64,
+    interval: u32,
+    hit: bool,
+    only: Option<SessionId>,
+) -> Result<Seen, Memory>
+    requires { step < 2 ^ 53 }
+    ensures { IfOk result (λ seen. (funcs : List Func)
+        → IsAfter funcs machine.now.main.now machine.now.index machine.now.registers machine.now.has_halted step
+        → seen_by seen ≡ tick_at funcs step step interval hit only) }
+{
+    Ok(Seen::Ticked(SeenTick {
+        time: Micros::new(step),
+        interval,
+        hit,
+        only,
+        steps: machine.steps(alloc)?,
+    }))
+}
+
+/// What has come about so far, and what the session has seen of it.
+#[derive(Debug, Drop)]
+struct Log {
+    entries: Sequence<ScheduleEntry>,
+    seen: Sequence<Seen>,
+}
+
+// The start of the session, before the first step, with its tick.
+fn start(alloc: Global, machine: &Machine<'_>, every: u32) -> Result<Log, Memory>
+    requires low { 1 ≤ every }
+    requires high { every ≤ MAX_INTERVAL }
+    ensures { IfOk result (λ log. (funcs : List Func)
+        → IsAfter funcs machine.now.main.now machine.now.index machine.now.registers machine.now.has_halted 0
+        → IsLog funcs every 0 log.entries (map seen_by log.seen)) }
+{
+    let options = whole_recording(every);
+    let mut entries = Sequence::new(alloc);
+    entries.push(entry_at(0, What::Start(options)))?;
+    let mut seen = Sequence::new(alloc);
+    seen.push(Seen::Started {
+        session: SESSION,
+        options,
+        time: Micros::new(0),
+    })?;
+    seen.push(tick_at(alloc, machine, 0, 0, false, Some(SESSION))?)?;
+    Ok(Log { entries, seen })
+}
+
 // Takes a sample where the clock asks for one.
 fn take_sample(
-    samples: &mut Vec<Sample>,
-    entries: &mut Sequence<ScheduleEntry>,
+    alloc: Global,
+    log: &mut Log,
     machine: &Machine<'_>,
     step: u64,
     every: u32,
 ) -> Result<(), Memory>
     requires low { 1 ≤ every }
     requires early { step < 2 ^ 53 }
-    ensures { OnOk result (entries.new ≡ entries.old ++ (if is_asked every step then entry_at step Sampled ∷ [] else [])) }
+    ensures { OnOk result ((funcs : List Func)
+        → IsAfter funcs machine.now.main.now machine.now.index machine.now.registers machine.now.has_halted step
+        → IsLog funcs every step log.old.entries (map seen_by log.old.seen)
+        → IsLog funcs every (suc step) log.new.entries (map seen_by log.new.seen)) }
 {
-    if !is_asked(step, every) {
-        return Ok(());
+    if is_asked(step, every) {
+        log.entries.push(entry_at(step, What::Sampled))?;
+        let tick = tick_at(alloc, machine, step, every, true, None)?;
+        log.seen.push(tick)?;
     }
-    samples.push(Sample {
-        time: step,
-        line: machine.line(),
+    Ok(())
+}
+
+// The recording of a run that has ended after so many steps.
+fn end(alloc: Global, log: Log, step: u64, every: u32) -> Result<Recording, Memory>
+    requires early { step ≤ 4096 }
+    ensures { IfOk result (λ recording. (funcs : List Func)
+        → IsLog funcs every step log.entries (map seen_by log.seen) → HaltsAt funcs step
+        → IsRecorded funcs every recording.schedule (map seen_by recording.seen)) }
+{
+    let Log {
+        mut entries,
+        mut seen,
+    } = log;
+    entries.push(entry_at(step, What::End(EndCause::Halt)))?;
+    seen.push(Seen::Finished {
+        time: Micros::new(step),
+        files: true,
+        reasons: Sequence::new(alloc),
     })?;
-    entries.push(entry_at(step, What::Sampled))
+    let schedule = Schedule {
+        base: every,
+        ring: RING,
+        budget: BUDGET,
+        limit: ENTRIES,
+        entries,
+    };
+    Ok(Recording { schedule, seen })
 }
 
 /// Runs the program to its end, with one session that samples before each step at which the clock
@@ -103,29 +176,15 @@ pub(crate) fn record(alloc: Global, program: &Program, every: u32) -> Result<Rec
     requires low { 1 ≤ every }
     requires high { every ≤ MAX_INTERVAL }
     requires straight { IsStraight program.now }
-    ensures { IfOk result (λ recording. IsRunSchedule program.now every recording.schedule) }
+    ensures { IfOk result (λ recording. IsRecorded program.now every recording.schedule (map seen_by recording.seen)) }
 {
     let mut machine = Machine::new(program);
-    let mut samples = Vec::new(alloc);
-    let mut entries = Sequence::new(alloc);
-    entries.push(entry_at(0, What::Start(whole_recording(every))))?;
+    let mut log = start(alloc, &machine, every)?;
     let mut step = 0u64;
     while !machine.has_halted() {
-        take_sample(&mut samples, &mut entries, &machine, step, every)?;
+        take_sample(alloc, &mut log, &machine, step, every)?;
         machine.step();
         step += 1;
     }
-    entries.push(entry_at(step, What::End(EndCause::Halt)))?;
-    let schedule = Schedule {
-        base: every,
-        ring: RING,
-        budget: BUDGET,
-        limit: ENTRIES,
-        entries,
-    };
-    Ok(Recording {
-        samples,
-        end: step,
-        schedule,
-    })
+    end(alloc, log, step, every)
 }

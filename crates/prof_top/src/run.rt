@@ -1,21 +1,28 @@
 // A run: the guest's recording, the delivery of its file, and the text that is printed.
-ghost use Rattle.std.specs.Prelude.{◌≡◌, ◌≤◌, ◌⊎◌, ◌<◌, IfOk, length, vec_len};
+ghost use Rattle.std.specs.Prelude.{◌≡◌, ◌≤◌, ◌⊎◌, ◌<◌, [], ◌∷◌, ◌++◌, IfOk, OnOk, IsErrOf, length, flat_map, map, string_bytes};
 ghost use Rattle.std.specs.List.{AllByRecursion};
 ghost use Rattle.guest_text.specs.Straight.{IsStraight};
+ghost use Rattle.code_event.specs.Seen.{seen_by};
 ghost use Rattle.prof_base.specs.Causes.{Rose};
-ghost use Rattle.prof_top.specs.Ending.{run_ending, IsRunEnding};
-ghost use Rattle.prof_top.specs.RunSchedule.{IsRunSchedule};
+ghost use Rattle.prof_outer.specs.Told.{AppendsWhole, AppendsPart};
+ghost use Rattle.isolate.specs.PlainFile.{plain_files};
+ghost use Rattle.prof_top.specs.Ending.{run_ending, status_of, IsRunEnding};
+ghost use Rattle.prof_top.specs.HandedOut.{IsHandedOut};
+ghost use Rattle.prof_top.specs.Log.{IsRecorded, IsRun};
+ghost use Rattle.prof_top.specs.PrintedText.{file_line, delivered_of, one_file};
+ghost use Rattle.prof_top.specs.RunSchedule.{IsDone};
 ghost use Rattle.prof_top.specs.Schedules.{HasSchedules};
 
 use crate::ending::Ending;
-use crate::profile::profile_text;
-use crate::recording::record;
+use crate::printing::{printed, schedule_lines};
+use crate::recording::{Recording, SESSION, record};
+use code_event::file;
 use guest_text::Program;
 use out_stream::{OutputStream, Undelivered};
 use prof_base::{MAX_INTERVAL, Memory, Sequence};
 use prof_outer::{Sink, SinkFault};
 use record_text::Schedule;
-use std::alloc::{AllocError, Global};
+use std::alloc::Global;
 
 /// What has come of a call: how it ended, and the schedules of the runs that took place.
 #[derive(Debug, Drop)]
@@ -28,44 +35,45 @@ pub(crate) struct Ran {
 #[derive(Debug, Drop)]
 struct Recorded {
     schedules: Sequence<Schedule>,
-    /// How many steps the guest did.
-    end: u64,
-    /// How many samples were taken.
-    samples: usize,
+    /// What is printed of it, but for its file.
+    lines: String,
     /// The text of the session's file.
-    file: Vec<u8>,
+    file: Sequence<u8>,
 }
 
-// What is printed of a run and of its file, where that was delivered.
-fn printed(alloc: Global, recorded: &Recorded, file: Option<usize>) -> Result<String, AllocError> {
-    let (end, samples) = (recorded.end, recorded.samples);
-    let mut text = format!(in alloc; "end halt {end}\nsampled {samples} dropped 0\n")?;
-    if let Some(length) = file {
-        let line = format!(in alloc; "file 1 {length}\n")?;
-        text.push_str(line.as_str())?;
-    }
-    Ok(text)
+// The file of the one session.
+fn session_file(
+    alloc: Global,
+    program: &Program,
+    every: u32,
+    recording: &Recording,
+) -> Result<Sequence<u8>, Memory>
+    requires low { 1 ≤ every }
+    requires high { every ≤ MAX_INTERVAL }
+    requires recorded { IsRecorded program.now every recording.now.schedule (map seen_by recording.now.seen) }
+    ensures file { IfOk result (λ text. plain_files program.now recording.now.schedule ≡ one_file text) }
+    ensures some { IfOk result (λ text. 0 < length text) }
+{
+    let text = file(alloc, every, SESSION, recording.seen.as_slice())?;
+    Ok(text.unwrap())
 }
 
-// The run of the program, with the text of its file.
+// The run of the program, with what is printed of it and the text of its file.
 fn record_run(alloc: Global, program: &Program, every: u32) -> Result<Recorded, Memory>
     requires low { 1 ≤ every }
     requires high { every ≤ MAX_INTERVAL }
     requires straight { IsStraight program.now }
-    ensures file { IfOk result (λ recorded. 0 < vec_len recorded.file) }
-    ensures kept { IfOk result (λ recorded. AllByRecursion (IsRunSchedule program.now every) recorded.schedules) }
-    ensures one { IfOk result (λ recorded. length recorded.schedules ≡ 1) }
+    ensures run { IfOk result (λ recorded. IsRun program.now every recorded.schedules (string_bytes recorded.lines) recorded.file) }
+    ensures some { IfOk result (λ recorded. 0 < length recorded.file) }
 {
     let recording = record(alloc, program, every)?;
-    let main = &program.funcs()[usize::from(program.main().0)];
-    let file = profile_text(alloc, main, &recording)?;
-    let (end, samples) = (recording.end, recording.samples.len());
+    let file = session_file(alloc, program, every, &recording)?;
+    let lines = schedule_lines(alloc, &recording.schedule)?;
     let mut schedules = Sequence::new(alloc);
     schedules.push(recording.schedule)?;
     Ok(Recorded {
         schedules,
-        end,
-        samples,
+        lines,
         file,
     })
 }
@@ -82,34 +90,70 @@ fn run_ending(delivered: Result<(), Undelivered>, written: Result<(), SinkFault>
     }
 }
 
-// Delivers the file of the run, and then prints to `out`.
+// Prints the lines of a run, and the line of its file where that was delivered. Nothing is done after
+// want of memory.
+fn print<O: Sink>(
+    alloc: Global,
+    delivered: Result<(), Undelivered>,
+    lines: &str,
+    file: &[u8],
+    out: &mut O,
+) -> Result<(), SinkFault>
+    ensures ok { OnOk result (AppendsWhole (O.written out.old) (O.written out.new) (lines.now ++ flat_map file_line (delivered_of delivered file.now))) }
+    ensures part { IsErrOf result SinkFault.Failed → AppendsPart (O.written out.old) (O.written out.new) (lines.now ++ flat_map file_line (delivered_of delivered file.now)) }
+    ensures memory { IsErrOf result SinkFault.Memory → O.written out.new ≡ O.written out.old }
+
+    // A fault has its count, and the count never falls.
+    ensures failed { IsErrOf result SinkFault.Failed → Rose (O.faults out.old) (O.faults out.new) }
+    ensures faults { O.faults out.old ≤ O.faults out.new }
+{
+    if let Err(Undelivered::Memory) = delivered {
+        return Err(SinkFault::Memory);
+    }
+    let Ok(text) = printed(alloc, lines, delivered, file) else {
+        return Err(SinkFault::Memory);
+    };
+    out.write_all(alloc, text.as_bytes())
+}
+
+// Delivers the file of a run, and then prints to `out`.
 fn hand_out<S: OutputStream, O: Sink>(
     alloc: Global,
-    recorded: &Recorded,
+    lines: &str,
+    file: &[u8],
     stream: &mut S,
     out: &mut O,
 ) -> Ending
-    requires { 0 < vec_len recorded.now.file }
+    requires { 0 < length file.now }
     // How it may end, and the cause of each.
     ensures ending { IsRunEnding result }
     ensures cannot_write { result ≡ Ending.CannotWrite → Rose (S.stream_faults stream.old) (S.stream_faults stream.new) ⊎ Rose (O.faults out.old) (O.faults out.new) }
     ensures aborted { result ≡ Ending.Aborted → Rose (S.aborts stream.old) (S.aborts stream.new) }
+
+    // What has come out.
+    ensures handed { IsHandedOut (one_file file.now) (λ files. lines.now ++ flat_map file_line files) (status_of result)
+        (record {
+          parts = S.parts stream.old;
+          aborts = S.aborts stream.old;
+          stream_faults = S.stream_faults stream.old;
+          written = O.written out.old;
+          out_faults = O.faults out.old;
+        })
+        (record {
+          parts = S.parts stream.new;
+          aborts = S.aborts stream.new;
+          stream_faults = S.stream_faults stream.new;
+          written = O.written out.new;
+          out_faults = O.faults out.new;
+        }) }
 
     // No count falls.
     ensures aborts { S.aborts stream.old ≤ S.aborts stream.new }
     ensures stream_faults { S.stream_faults stream.old ≤ S.stream_faults stream.new }
     ensures out_faults { O.faults out.old ≤ O.faults out.new }
 {
-    let delivered = stream.deliver_part(alloc, &recorded.file);
-    let length = match delivered {
-        Ok(()) => Some(recorded.file.len()),
-        Err(Undelivered::Aborted | Undelivered::Failed) => None,
-        Err(Undelivered::Memory) => return Ending::Memory,
-    };
-    let Ok(text) = printed(alloc, recorded, length) else {
-        return Ending::Memory;
-    };
-    let written = out.write_all(alloc, text.as_bytes());
+    let delivered = stream.deliver_part(alloc, file);
+    let written = print(alloc, delivered, lines, file, out);
     run_ending(delivered, written)
 }
 
@@ -130,9 +174,25 @@ pub(crate) fn run<S: OutputStream, O: Sink>(
     ensures cannot_write { result.ending ≡ Ending.CannotWrite → Rose (S.stream_faults stream.old) (S.stream_faults stream.new) ⊎ Rose (O.faults out.old) (O.faults out.new) }
     ensures aborted { result.ending ≡ Ending.Aborted → Rose (S.aborts stream.old) (S.aborts stream.new) }
 
-    // The schedule of the run.
-    ensures kept { AllByRecursion (IsRunSchedule program.now every) result.schedules }
+    // The schedule of the run, and what has come out of it.
     ensures counted { HasSchedules result.ending (length result.schedules) }
+    ensures kept { AllByRecursion (λ schedule. IsDone program.now every schedule (status_of result.ending)
+        (record {
+          parts = S.parts stream.old;
+          aborts = S.aborts stream.old;
+          stream_faults = S.stream_faults stream.old;
+          written = O.written out.old;
+          out_faults = O.faults out.old;
+        })
+        (record {
+          parts = S.parts stream.new;
+          aborts = S.aborts stream.new;
+          stream_faults = S.stream_faults stream.new;
+          written = O.written out.new;
+          out_faults = O.faults out.new;
+        })) result.schedules }
+    ensures no_parts { result.schedules ≡ [] → S.parts stream.new ≡ S.parts stream.old }
+    ensures no_text { result.schedules ≡ [] → O.written out.new ≡ O.written out.old }
 
     // No count falls.
     ensures aborts { S.aborts stream.old ≤ S.aborts stream.new }
@@ -145,7 +205,8 @@ pub(crate) fn run<S: OutputStream, O: Sink>(
             schedules: Sequence::new(alloc),
         };
     };
-    let ending = hand_out(alloc, &recorded, stream, out);
+    let (lines, file) = (recorded.lines.as_str(), recorded.file.as_slice());
+    let ending = hand_out(alloc, lines, file, stream, out);
     Ran {
         ending,
         schedules: recorded.schedules,

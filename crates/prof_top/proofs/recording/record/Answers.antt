@@ -1,9 +1,23 @@
-use Rattle.std.proofs.Common.{rules}
-use Rattle.prof_top.proofs.RunSchedules.{run_schedule}
+use Rattle.std.proofs.Common.{rules, map, subst}
+use Rattle.code_event.specs.Seen.{seen_by}
+use Rattle.prof_top.proofs.Logs.{next, going_after}
+use Rattle.prof_top.specs.Log.{IsLog}
+use Rattle.prof_top.specs.Straight.{IsAfter}
 use Rattle.prof_top.proofs.recording.record.Goals as goal
 
-pub returns : goal.returns
-returns c = let i = c.loop-machine.invariant in
-    run_schedule c.args.program.now c.args.every c.loop-machine.step c.loop-machine.machine.index c.loop-machine.machine.registers c.loop-machine.machine.has_halted
-    c.whole_recording.result c.entry_at.result c.entry_at-2.result c.push.new.self c.loop-machine.entries c.push-2.new.self
-    (search rules) (search rules) i.before i.state c.whole_recording.ensures c.entry_at.ensures (search rules) i.entries c.entry_at-2.ensures (search rules)
+pub loop-machine-preserved : goal.loop-machine-preserved
+loop-machine-preserved c =
+    let i = c.loop-machine.invariant in
+    let funcs = c.args.program.now in
+    let had = c.loop-machine.machine in
+    let machine = c.step.new.self in
+    let log = c.take_sample.new.log in
+    record {
+      straight = search rules;
+      short = search rules;
+      at = search rules;
+      few = search rules;
+      after = subst (IsAfter funcs machine.main.now machine.index machine.registers machine.has_halted) (next c.loop-machine.step) (c.step.ensures.after funcs c.loop-machine.step i.after);
+      before = going_after funcs had.main.now had.index had.registers had.has_halted c.loop-machine.step (search rules) i.after;
+      log = subst (λ step. IsLog funcs c.args.every step log.entries (map seen_by log.seen)) (next c.loop-machine.step) (c.in_ok-take_sample.ensures funcs i.after i.log);
+    }

@@ -1,0 +1,168 @@
+-- What is seen of a run in which no code is given up and one session samples at its own interval.
+use Rattle.std.proofs.Common.{◌≡◌, ℕ, zero, suc, ◌+◌, ◌-◌, ◌*◌, ◌≤◌, List, [], ◌∷◌, ◌++◌, refl, ap, sym, subst, ◌∙◌, min, max, ◌/◌, ◌%◌, arith}
+use Rattle.std.proofs.lemmas.Bool.{cond_both, cond-false}
+use Rattle.std.proofs.lemmas.Bool.Decides.{nat_tests}
+use Rattle.std.proofs.lemmas.List.{append_assoc, append-nil}
+use Rattle.std.proofs.Math.Nat.{div_self, mod_self, mod-eq_of_lt}
+use Rattle.std.specs.Prelude.{Bool, true, false, Some, None, is_some, map, ◌==◌, if◌then◌else◌}
+use Rattle.std.specs.List.{AllByRecursion}
+use Rattle.guest_text.specs.declared.instr.Func.{Func}
+use Rattle.code_event.proofs.EachElement.{all_pushed}
+use Rattle.code_event.specs.CodeRanges.{Reasons, no_reasons, same_entry}
+use Rattle.code_event.specs.ItemFile.{session}
+use Rattle.code_event.specs.KeptTicks.{recording, recording_behind, with_tick}
+use Rattle.code_event.specs.Seen.{Seen, started, stopped, finished, ticked}
+use Rattle.code_event.specs.declared.entry.Entry.{Entry}
+use Rattle.code_event.specs.declared.event.Options.{Options}
+use Rattle.code_event.specs.declared.kept.Begun.{Begun}
+use Rattle.code_event.specs.declared.seen.SeenTick.{SeenTick}
+use Rattle.guest_machine.specs.PlainMachine.{plain, deopts, plain_code}
+use Rattle.isolate.specs.PlainFile.{entry_of, reason_in, reasons_of, plain_steps, tick_at, given_up, given_up_for, seen_of, seen_behind, ends_behind}
+use Rattle.prof_base.specs.Interval.{rounded_of}
+use Rattle.record_text.specs.Schedule.{Course, Running, course_after, course_on}
+use Rattle.record_text.specs.Source.{gcd, gcd_within, source_for}
+use Rattle.record_text.specs.declared.schedule.EndCause.TheVariants as cause
+use Rattle.record_text.specs.declared.schedule.What.TheVariants.{Sampled, Start, End}
+use Rattle.record_text.specs.declared.schedule.ScheduleEntry.{ScheduleEntry}
+use Rattle.prof_top.proofs.Clock.{samples_start_none}
+use Rattle.prof_top.specs.Log.{ticks_before, seen_before}
+use Rattle.prof_top.specs.StepClock.{entry_at, is_asked, samples_before, entries_before}
+use Rattle.prof_top.specs.Straight.{straight_state}
+
+-- what is seen of the entries alone
+abbrev seen_each : List Func → ℕ → Course → List ScheduleEntry → List Seen
+seen_each funcs base course [] = []
+seen_each funcs base course (entry ∷ entries) = seen_of funcs base course entry.step entry.time entry.what ++ seen_each funcs base (course_after course entry.what) entries
+
+module _ (funcs : List Func) (calm : (steps : ℕ) → deopts funcs steps ≡ false) where
+  none_given_up : (time step more : ℕ) → given_up funcs time step more ≡ []
+  none_given_up time step zero = refl
+  none_given_up time step (suc more) =
+      ap (λ (b : Bool). (if b then tick_at funcs (suc step) time 0 false None ∷ [] else []) ++ given_up funcs time (suc step) more) (calm step) ∙ none_given_up time (suc step) more
+
+  none_for : (running : List Running) (time step more : ℕ) → given_up_for running funcs time step more ≡ []
+  none_for [] time step more = refl
+  none_for (running ∷ others) time step more = none_given_up time step more
+
+  seen_alone : (base : ℕ) (course : Course) (step time : ℕ) (entries : List ScheduleEntry) → seen_behind funcs base course step time entries ≡ seen_each funcs base course entries
+  seen_alone base course step time [] = refl
+  seen_alone base course step time (entry ∷ entries) =
+      let own = seen_of funcs base course entry.step entry.time entry.what in
+      ap (λ (front : List Seen). front ++ own ++ seen_behind funcs base (course_after course entry.what) entry.step entry.time entries) (none_for course.running time step (entry.step - step))
+      ∙ ap (λ (rest : List Seen). own ++ rest) (seen_alone base (course_after course entry.what) entry.step entry.time entries)
+
+seen_each_more : (funcs : List Func) (base : ℕ) (course : Course) (entries : List ScheduleEntry) (entry : ScheduleEntry)
+    → seen_each funcs base course (entries ++ entry ∷ []) ≡ seen_each funcs base course entries ++ seen_of funcs base (course_on course entries) entry.step entry.time entry.what
+seen_each_more funcs base course [] entry = append-nil (seen_of funcs base course entry.step entry.time entry.what)
+seen_each_more funcs base course (first ∷ entries) entry =
+    let own = seen_of funcs base course first.step first.time first.what in
+    let after = course_after course first.what in
+    ap (λ (rest : List Seen). own ++ rest) (seen_each_more funcs base after entries entry)
+    ∙ sym (append_assoc own (seen_each funcs base after entries) (seen_of funcs base (course_on after entries) entry.step entry.time entry.what))
+
+either : {A B : Type 0} (P : List A → List B → Type 0) (b : Bool) (x : A) (y : B) → P (x ∷ []) (y ∷ []) → P [] [] → P (if b then x ∷ [] else []) (if b then y ∷ [] else [])
+either P true x y one none = one
+either P false x y one none = none
+
+-- the ticks of the samples, at this source interval
+samples_seen : (funcs : List Func) (base every : ℕ) (course : Course) (step : ℕ) → source_for base course.running ≡ every
+    → seen_each funcs base course (samples_before every step) ≡ ticks_before funcs every step
+samples_seen funcs base every course zero source = refl
+samples_seen funcs base every course (suc step) source =
+    let before = samples_before every step in
+    let had = samples_seen funcs base every course step source in
+    let same : source_for base (course_on course before).running ≡ every = ap (λ (c : Course). source_for base c.running) (samples_start_none every step course) ∙ source in
+    either (λ entries seen. seen_each funcs base course (before ++ entries) ≡ ticks_before funcs every step ++ seen) (is_asked every step)
+    (entry_at step Sampled) (tick_at funcs step step every true None)
+    (seen_each_more funcs base course before (entry_at step Sampled) ∙ λ i. had i ++ tick_at funcs step step (same i) true None ∷ [])
+    (ap (seen_each funcs base course) (append-nil before) ∙ (had ∙ sym (append-nil (ticks_before funcs every step))))
+
+alone_rounded : (every : ℕ) → 1 ≤ every → rounded_of every every ≡ every
+alone_rounded every some =
+    let once : every / every ≡ 1 = div_self some in
+    let none : every % every ≡ 0 = mod_self every in
+    (λ i. max (once i + min 1 (none i)) 1 * every) ∙ omega arith
+
+not_zero : (n : ℕ) → (suc n == 0) ≡ false
+not_zero n = grind (arith, nat_tests)
+
+alone_divided : (n : ℕ) → 1 ≤ n → gcd 0 n ≡ n
+alone_divided zero some = absurd (omega arith)
+alone_divided (suc n) some =
+    cond-false (suc n == 0) 0 (gcd_within (suc n) (suc n) (0 % suc n)) (not_zero n) ∙ ap (gcd_within (suc n) (suc n)) (mod-eq_of_lt some)
+
+-- one session that has the base as its interval is sampled at that
+pub source_alone : (every number port : ℕ) → 1 ≤ every → source_for every (record { session = number; port = port; interval = every } ∷ []) ≡ every
+source_alone every number port some = ap (gcd 0) (alone_rounded every some) ∙ alone_divided every some
+
+no_reason : (funcs : List Func) (entry : Entry) → reason_in funcs (map plain_code funcs) entry ≡ None
+no_reason [] entry = refl
+no_reason (func ∷ funcs) entry =
+    cond_both (same_entry (entry_of func) entry) None (reason_in funcs (map plain_code funcs) entry) (λ found. found ≡ None) (λ is. refl) (λ not. no_reason funcs entry)
+
+-- no function has a reason
+pub no_reasons_given : (funcs : List Func) (index : ℕ) (registers : List ℕ) (halted : Bool) → reasons_of funcs (straight_state funcs index registers halted) ≡ no_reasons
+no_reasons_given funcs index registers halted = λ i (entry : Entry). no_reason funcs entry i
+
+abbrev IsTick : Seen → Type 0
+IsTick (ticked tick) = Unit {0}
+IsTick other = ⊥
+
+ticks_are_ticks : (funcs : List Func) (every step : ℕ) → AllByRecursion IsTick (ticks_before funcs every step)
+ticks_are_ticks funcs every zero = tt
+ticks_are_ticks funcs every (suc step) =
+    let before = ticks_before funcs every step in
+    let all = ticks_are_ticks funcs every step in
+    cond_both (is_asked every step) (tick_at funcs step step every true None ∷ []) [] (λ more. AllByRecursion IsTick (before ++ more))
+    (λ asked. all_pushed IsTick before (tick_at funcs step step every true None) all tt)
+    (λ not. subst (AllByRecursion IsTick) (sym (append-nil before)) all)
+
+-- a session that has begun is finished behind all ticks
+finished_behind : (number : ℕ) (begun : Begun) (ticks : List Seen) (time : ℕ) (reasons : Reasons) → AllByRecursion IsTick ticks
+    → is_some (recording_behind number (Some begun) (ticks ++ finished time true reasons ∷ [])) ≡ true
+finished_behind number begun [] time reasons all = refl
+finished_behind number begun (ticked tick ∷ ticks) time reasons all = finished_behind number (with_tick number tick begun) ticks time reasons all.1
+finished_behind number begun (started s options at ∷ ticks) time reasons all = absurd all.0
+finished_behind number begun (stopped s at given ∷ ticks) time reasons all = absurd all.0
+finished_behind number begun (finished at files given ∷ ticks) time reasons all = absurd all.0
+
+-- the one session of a run has a file
+pub has_file : (funcs : List Func) (options : Options) (step time : ℕ) (reasons : Reasons) → is_some (recording 1 (seen_before funcs options step ++ finished time true reasons ∷ [])) ≡ true
+has_file funcs options step time reasons =
+    let begun : Begun = record { options = options; start = 0; ticks = [] } in
+    let first : SeenTick = record { time = 0; interval = 0; hit = false; only = Some (session 1); steps = plain_steps funcs (plain funcs 0) } in
+    finished_behind 1 (with_tick 1 first begun) (ticks_before funcs options.interval step) time reasons (ticks_are_ticks funcs options.interval step)
+
+-- the sessions after the start of a run
+abbrev with_one : Options → Course
+with_one options = course_after (record { started = 0; running = [] }) (Start options)
+
+no_sample_ends : (every step : ℕ) (course : Course) (entries : List ScheduleEntry) → ends_behind course (samples_before every step ++ entries) ≡ ends_behind course entries
+no_sample_ends every zero course entries = refl
+no_sample_ends every (suc step) course entries =
+    let before = samples_before every step in
+    cond_both (is_asked every step) (entry_at step Sampled ∷ []) [] (λ more. ends_behind course (before ++ more ++ entries) ≡ ends_behind course entries)
+    (λ asked. ap (ends_behind course) (append_assoc before (entry_at step Sampled ∷ []) entries) ∙ no_sample_ends every step course (entry_at step Sampled ∷ entries))
+    (λ not. ap (λ front. ends_behind course (front ++ entries)) (append-nil before) ∙ no_sample_ends every step course entries)
+
+-- just the one session of a run ends, and with its end
+pub one_ends : (options : Options) (step : ℕ) (entry : ScheduleEntry) → entry ≡ entry_at step (End cause.Halt) → ends_behind (record { started = 0; running = [] }) (entries_before options step ++ entry ∷ []) ≡ 1 ∷ []
+one_ends options step entry is =
+    no_sample_ends options.interval step (with_one options) (entry ∷ []) ∙ ap (λ (e : ScheduleEntry). ends_behind (with_one options) (e ∷ [])) is
+
+-- what is seen of a run
+pub seen_of_halt : (funcs : List Func) (every : ℕ) (options : Options) (step index : ℕ) (registers : List ℕ) → ((steps : ℕ) → deopts funcs steps ≡ false)
+    → every ≡ options.interval → plain funcs step ≡ straight_state funcs index registers true
+    → seen_behind funcs every (record { started = 0; running = [] }) 0 0 (entries_before options step ++ entry_at step (End cause.Halt) ∷ [])
+    ≡ seen_before funcs options step ++ finished step true no_reasons ∷ []
+seen_of_halt funcs every options step index registers calm same state =
+    let before = entries_before options step in
+    let end = entry_at step (End cause.Halt) in
+    let none : Course = record { started = 0; running = [] } in
+    let source : source_for every (with_one options).running ≡ options.interval =
+    ap (λ base. source_for base (with_one options).running) same ∙ source_alone options.interval 1 options.port options.low in
+    let ticks : seen_each funcs every none before ≡ seen_before funcs options step =
+    ap (λ (more : List Seen). started (session 1) options 0 ∷ tick_at funcs 0 0 0 false (Some (session 1)) ∷ more) (samples_seen funcs every options.interval (with_one options) step source) in
+    let reasons : reasons_of funcs (plain funcs step) ≡ no_reasons = ap (reasons_of funcs) state ∙ no_reasons_given funcs index registers true in
+    seen_alone funcs calm every none 0 0 (before ++ end ∷ [])
+    ∙ (seen_each_more funcs every none before end ∙ λ i. ticks i ++ finished step true (reasons i) ∷ [])

@@ -1,0 +1,37 @@
+-- What comes out of a run: its files through the stream, and its text through `out`.
+use Rattle.std.specs.Prelude.{◌≡◌, ◌≢◌, ◌⊎◌, ℕ, List, [], ◌++◌, length, map, take, Option, IfSome, option_map}
+use Rattle.std.specs.Option.{option_map_or}
+use Rattle.std.specs.List.{slice_get}
+use Rattle.prof_base.specs.Causes.{Rose}
+use Rattle.prof_base.specs.Prefix.{IsPrefix}
+use Rattle.prof_outer.specs.Told.{AppendsWhole, AppendsPart}
+use Rattle.out_stream.specs.Parts.{Parts}
+use Rattle.isolate.specs.PlainFile.{SessionFile}
+
+-- what the stream and `out` tell at one moment
+pub record Told : Type 0 where
+  pub parts : Option Parts
+  pub aborts : ℕ
+  pub stream_faults : ℕ
+  pub written : Option (List ℕ)
+  pub out_faults : ℕ
+
+-- the text with this number, from 0, and no bytes where there is none
+abbrev pub text_at : List (List ℕ) → ℕ → List ℕ
+text_at texts number = option_map_or (λ text. text) (slice_get texts number) []
+
+-- the first so many texts were added, each as one part, and a front of the next is unfinished
+abbrev pub AddsParts : List (List ℕ) → ℕ → Option Parts → Option Parts → Type 0
+AddsParts texts number before now =
+    (part : List ℕ) × IsPrefix part (text_at texts number) × (now ≡ option_map (λ parts. (parts.0 ++ take number texts, part)) before)
+
+-- Of these files the first so many were delivered, and this text was printed of them. All were delivered where the stream neither aborted nor failed and there was memory, where the call ended well, and where it ended by a fault of `out` alone.
+pub record IsHandedOut (files : List SessionFile) (text : List SessionFile → List ℕ) (status : ℕ) (before now : Told) : Type 0 where
+  pub delivered : ℕ
+  pub parts : IfSome before.parts (λ parts. parts.1 ≡ []) → AddsParts (map (λ file. file.text) files) delivered before.parts now.parts
+  pub whole : ¬ Rose before.aborts now.aborts → ¬ Rose before.stream_faults now.stream_faults → status ≢ 6 → delivered ≡ length files
+  pub done : status ≡ 0 → delivered ≡ length files
+  pub order : status ≡ 5 → Rose before.stream_faults now.stream_faults ⊎ (delivered ≡ length files)
+  pub printed : AppendsPart before.written now.written (text (take delivered files))
+  pub printed_whole : ¬ Rose before.out_faults now.out_faults → status ≢ 6 → AppendsWhole before.written now.written (text (take delivered files))
+  pub printed_done : status ≡ 0 → AppendsWhole before.written now.written (text (take delivered files))

@@ -1,0 +1,61 @@
+-- What is printed of a run.
+use Rattle.std.specs.Prelude.{ℕ, List, [], ◌∷◌, ◌++◌, length, flat_map, count_by, Bool, true, false, codes, decimal, Result, Ok, Err}
+use Rattle.out_stream.specs.declared.stream.Undelivered.{Undelivered}
+use Rattle.guest_text.specs.declared.instr.Func.{Func}
+use Rattle.guest_machine.specs.PlainMachine.{plain}
+use Rattle.isolate.specs.PlainFile.{SessionFile}
+use Rattle.record_text.specs.Schedule.{is_sampled}
+use Rattle.record_text.specs.declared.schedule.EndCause.{EndCause}
+use Rattle.record_text.specs.declared.schedule.EndCause.TheVariants as cause
+use Rattle.record_text.specs.declared.schedule.What.{What}
+use Rattle.record_text.specs.declared.schedule.What.TheVariants.{Dropped, End}
+use Rattle.record_text.specs.declared.schedule.ScheduleEntry.{ScheduleEntry}
+use Rattle.record_text.specs.declared.schedule.Schedule.{Schedule}
+use Rattle.prof_top.specs.StepClock.{last_step}
+
+-- the word that names why a run ended
+abbrev pub end_word : EndCause → List ℕ
+end_word cause.Halt = codes "halt"
+end_word cause.Overflow = codes "overflow"
+end_word cause.OffEnd = codes "offend"
+end_word cause.Budget = codes "budget"
+end_word cause.Full = codes "full"
+end_word cause.Memory = codes "memory"
+
+-- the line of an end: its cause and its step
+abbrev pub end_line : ScheduleEntry → What → List ℕ
+end_line entry (End cause) = codes "end " ++ end_word cause ++ codes " " ++ decimal entry.step ++ codes "\n"
+end_line entry other = []
+
+abbrev pub is_dropped : What → Bool
+is_dropped Dropped = true
+is_dropped other = false
+
+-- how many samples were taken, and how many were dropped
+abbrev pub counts_line : ℕ → ℕ → List ℕ
+counts_line sampled dropped = codes "sampled " ++ decimal sampled ++ codes " dropped " ++ decimal dropped ++ codes "\n"
+
+abbrev pub samples_line : List ScheduleEntry → List ℕ
+samples_line entries = counts_line (count_by (λ entry. is_sampled entry.what) entries) (count_by (λ entry. is_dropped entry.what) entries)
+
+-- the lines of a schedule
+abbrev pub schedule_lines : List ScheduleEntry → List ℕ
+schedule_lines entries = flat_map (λ entry. end_line entry entry.what) entries ++ samples_line entries
+
+-- the line of a file: its session, and its length in bytes
+abbrev pub file_line : SessionFile → List ℕ
+file_line file = codes "file " ++ decimal file.session ++ codes " " ++ decimal (length file.text) ++ codes "\n"
+
+-- what is printed of a run and of the files that were delivered: the guest's own text, the lines of the schedule, and a line of each file
+abbrev pub printed_text : List Func → Schedule → List SessionFile → List ℕ
+printed_text funcs schedule files =
+    (plain funcs (last_step schedule.entries)).printed ++ schedule_lines schedule.entries ++ flat_map file_line files
+
+-- the file of a run's one session
+abbrev pub one_file : List ℕ → List SessionFile
+one_file text = record { session = 1; text = text } ∷ []
+
+-- the files that were delivered, where that one was handed to the stream with this answer
+abbrev pub delivered_of : Result (Unit {0}) Undelivered → List ℕ → List SessionFile
+delivered_of (Ok u) text = one_file text
+delivered_of (Err fault) text = []

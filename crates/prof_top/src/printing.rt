@@ -1,0 +1,112 @@
+// What is printed of a run.
+ghost use Rattle.std.specs.Prelude.{◌≡◌, ◌≤◌, ◌++◌, length, flat_map, count_by, IfOk, OnOk, string_bytes};
+ghost use Rattle.record_text.specs.Schedule.{is_sampled};
+ghost use Rattle.prof_top.specs.PrintedText.{end_word, end_line, is_dropped, counts_line, samples_line, schedule_lines, file_line, delivered_of};
+
+use crate::recording::SESSION;
+use out_stream::Undelivered;
+use record_text::{EndCause, Schedule, ScheduleEntry, What};
+use std::alloc::{AllocError, Global};
+
+fn end_word(cause: EndCause) -> &'static str
+    ensures { result.now ≡ end_word cause }
+{
+    match cause {
+        EndCause::Halt => "halt",
+        EndCause::Overflow => "overflow",
+        EndCause::OffEnd => "offend",
+        EndCause::Budget => "budget",
+        EndCause::Full => "full",
+        EndCause::Memory => "memory",
+    }
+}
+
+// Adds the line of an end, and nothing of another entry.
+fn put_end(alloc: Global, text: &mut String, entry: &ScheduleEntry) -> Result<(), AllocError>
+    ensures { OnOk result (string_bytes text.new ≡ string_bytes text.old ++ end_line entry.now entry.now.what) }
+{
+    match entry.what {
+        What::End(cause) => {
+            let (word, step) = (end_word(cause), entry.step);
+            let line = format!(in alloc; "end {word} {step}\n")?;
+            text.push_str(line.as_str())
+        }
+        What::Sampled | What::Dropped | What::Start(_) | What::Stop { .. } => Ok(()),
+    }
+}
+
+// The line of the end.
+fn end_lines(alloc: Global, entries: &[ScheduleEntry]) -> Result<String, AllocError>
+    ensures { IfOk result (λ text. string_bytes text ≡ flat_map (λ entry. end_line entry entry.what) entries.now) }
+{
+    let mut text = String::new(alloc);
+    for entry in entries {
+        put_end(alloc, &mut text, entry)?;
+    }
+    Ok(text)
+}
+
+// How many samples were taken.
+fn sampled(entries: &[ScheduleEntry]) -> usize
+    ensures { result ≡ count_by (λ entry. is_sampled entry.what) entries.now }
+{
+    entries
+        .iter()
+        .filter(|entry| entry.what == What::Sampled)
+        .count()
+}
+
+// How many were dropped.
+fn dropped(entries: &[ScheduleEntry]) -> usize
+    ensures { result ≡ count_by (λ entry. is_dropped entry.what) entries.now }
+{
+    entries
+        .iter()
+        .filter(|entry| entry.what == What::Dropped)
+        .count()
+}
+
+fn counts_line(alloc: Global, sampled: usize, dropped: usize) -> Result<String, AllocError>
+    ensures { IfOk result (λ text. string_bytes text ≡ counts_line sampled dropped) }
+{
+    let mut line = format!(in alloc; "sampled {sampled}")?;
+    let rest = format!(in alloc; " dropped {dropped}\n")?;
+    line.push_str(rest.as_str())?;
+    Ok(line)
+}
+
+// How many samples were taken, and how many were dropped.
+fn samples_line(alloc: Global, entries: &[ScheduleEntry]) -> Result<String, AllocError>
+    ensures { IfOk result (λ text. string_bytes text ≡ samples_line entries.now) }
+{
+    counts_line(alloc, sampled(entries), dropped(entries))
+}
+
+/// The lines of a schedule.
+pub(crate) fn schedule_lines(alloc: Global, schedule: &Schedule) -> Result<String, AllocError>
+    ensures { IfOk result (λ text. string_bytes text ≡ schedule_lines schedule.now.entries) }
+{
+    let entries = schedule.entries.as_slice();
+    let mut text = end_lines(alloc, entries)?;
+    let samples = samples_line(alloc, entries)?;
+    text.push_str(samples.as_str())?;
+    Ok(text)
+}
+
+/// These lines, and the line of the run's one file where that was delivered.
+pub(crate) fn printed(
+    alloc: Global,
+    lines: &str,
+    delivered: Result<(), Undelivered>,
+    file: &[u8],
+) -> Result<String, AllocError>
+    ensures { IfOk result (λ text. string_bytes text ≡ lines.now ++ flat_map file_line (delivered_of delivered file.now)) }
+{
+    let mut text = String::from_str(alloc, lines)?;
+    if let Ok(()) = delivered {
+        let (session, length) = (SESSION.0, file.len());
+        let line = format!(in alloc; "file {session} {length}\n")?;
+        text.push_str(line.as_str())?;
+    }
+    Ok(text)
+}
