@@ -20,7 +20,7 @@ pub record Told : Type 0 where
 abbrev pub text_at : List (List ℕ) → ℕ → List ℕ
 text_at texts number = option_map_or (λ text. text) (slice_get texts number) []
 
--- the first so many texts were added, each as one part, and a front of the next is unfinished
+-- the first so many texts were added, each as one part, and a front of the next is unfinished: behind the last there is no next, and nothing is
 abbrev pub AddsParts : List (List ℕ) → ℕ → Option Parts → Option Parts → Type 0
 AddsParts texts number before now =
     (part : List ℕ) × IsPrefix part (text_at texts number) × (now ≡ option_map (λ parts. (parts.0 ++ take number texts, part)) before)
