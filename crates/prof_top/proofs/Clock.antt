@@ -208,7 +208,7 @@ record IsCut (options : Options) (step places : ℕ) : Type 0 where
   pub front : take places (entries_before options step) ≡ entries_before options at
   pub size : length (entries_before options at) ≡ places
 
-within_or_past : (m n : ℕ) → (m ≤ n) ⊎ (n < m)
+pub within_or_past : (m n : ℕ) → (m ≤ n) ⊎ (n < m)
 within_or_past m n = grind arith
 
 pub few_more : (every step : ℕ) → length (if is_asked every step then entry_at step Sampled ∷ [] else []) ≤ 1

@@ -7,3 +7,4 @@ mod SeenRuns
 mod Logs
 mod Handed
 mod Saying
+mod ClockOnce

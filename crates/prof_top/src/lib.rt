@@ -12,7 +12,7 @@ mod run;
 mod words;
 
 pub use call::{Outcome, cpuprof_once};
-pub use laws::the_step_clock_keeps_the_rules;
+pub use laws::{the_step_clock_has_one_schedule, the_step_clock_keeps_the_rules};
 
 #[cfg(test)]
 mod tests;
