@@ -14,6 +14,7 @@ use Rattle.out_stream.specs.Parts.{Parts, grown, closed, GrowsByPrefix}
 use Rattle.out_stream.specs.declared.stream.Undelivered.{Undelivered}
 use Rattle.out_stream.specs.declared.stream.Undelivered.TheVariants as cut
 use Rattle.prof_top.specs.Ending.{run_ending, status_of}
+use Rattle.prof_top.specs.Written.{IsWritten}
 use Rattle.prof_top.specs.declared.ending.Ending.{Ending}
 use Rattle.prof_top.specs.HandedOut.{Told, AddsParts, IsHandedOut}
 use Rattle.prof_top.specs.PrintedText.{one_file, delivered_of, file_line, printed_text}
@@ -141,9 +142,11 @@ handed_so lines file delivered written before now delivers writes =
       whole = λ no_abort no_fault room. whole_of delivered written before.aborts now.aborts before.stream_faults now.stream_faults delivers.aborted delivers.failed no_abort no_fault room;
       done = λ done. done_of delivered written done;
       order = λ five. order_of delivered written before.stream_faults now.stream_faults delivers.failed five;
-      printed = subst (AppendsPart before.written now.written) same (part_of written before.written now.written text writes.ok writes.part writes.memory);
-      printed_whole = λ no_fault room. subst (AppendsWhole before.written now.written) same
-          (written_whole delivered written before.written now.written text before.out_faults now.out_faults writes.ok writes.failed no_fault room);
+      printed = subst (λ t. IsWritten t (status_of (run_ending delivered written)) before.written now.written before.out_faults now.out_faults) same
+          (record {
+            part = part_of written before.written now.written text writes.ok writes.part writes.memory;
+            whole = λ no_fault room. written_whole delivered written before.written now.written text before.out_faults now.out_faults writes.ok writes.failed no_fault room;
+          });
       printed_done = λ done. subst (AppendsWhole before.written now.written) same (written_done delivered written before.written now.written text writes.ok done);
     }
 
@@ -179,7 +182,6 @@ handed_at_last files text status last before now (inr memory) handed = record {
   whole = λ no_abort no_fault room. absurd (room memory);
   done = λ done. absurd (omega (arith, memory, done));
   order = λ five. absurd (omega (arith, memory, five));
-  printed = handed.printed;
-  printed_whole = λ no_fault room. absurd (room memory);
+  printed = record { part = handed.printed.part; whole = λ no_fault room. absurd (room memory) };
   printed_done = λ done. absurd (omega (arith, memory, done));
 }

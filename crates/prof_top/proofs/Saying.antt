@@ -7,7 +7,7 @@ use Rattle.prof_outer.specs.declared.sink.SinkFault.{SinkFault}
 use Rattle.prof_outer.specs.declared.sink.SinkFault.TheVariants as sink
 use Rattle.prof_top.proofs.Handed.{none_is_part, whole_is_part}
 use Rattle.prof_top.specs.Ending.{status_of, line_of, told}
-use Rattle.prof_top.specs.Said.{IsWritten}
+use Rattle.prof_top.specs.Written.{IsWritten}
 use Rattle.prof_top.specs.declared.ending.Ending.{Ending}
 use Rattle.prof_top.specs.declared.ending.Ending.TheVariants.{Memory}
 

@@ -4,9 +4,10 @@ use Rattle.std.specs.Option.{option_map_or}
 use Rattle.std.specs.List.{slice_get}
 use Rattle.prof_base.specs.Causes.{Rose}
 use Rattle.prof_base.specs.Prefix.{IsPrefix}
-use Rattle.prof_outer.specs.Told.{AppendsWhole, AppendsPart}
+use Rattle.prof_outer.specs.Told.{AppendsWhole}
 use Rattle.out_stream.specs.Parts.{Parts}
 use Rattle.isolate.specs.PlainFile.{SessionFile}
+use Rattle.prof_top.specs.Written.{IsWritten}
 
 -- what the stream and `out` tell at one moment
 pub record Told : Type 0 where
@@ -32,6 +33,5 @@ pub record IsHandedOut (files : List SessionFile) (text : List SessionFile → L
   pub whole : ¬ Rose before.aborts now.aborts → ¬ Rose before.stream_faults now.stream_faults → status ≢ 6 → delivered ≡ length files
   pub done : status ≡ 0 → delivered ≡ length files
   pub order : status ≡ 5 → Rose before.stream_faults now.stream_faults ⊎ (delivered ≡ length files)
-  pub printed : AppendsPart before.written now.written (text (take delivered files))
-  pub printed_whole : ¬ Rose before.out_faults now.out_faults → status ≢ 6 → AppendsWhole before.written now.written (text (take delivered files))
+  pub printed : IsWritten (text (take delivered files)) status before.written now.written before.out_faults now.out_faults
   pub printed_done : status ≡ 0 → AppendsWhole before.written now.written (text (take delivered files))

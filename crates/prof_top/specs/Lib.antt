@@ -12,3 +12,4 @@ pub mod Schedules
 pub mod Status
 pub mod StepClock
 pub mod Straight
+pub mod Written

@@ -1,9 +1,8 @@
 -- What a call says of its end on `err`.
-use Rattle.std.specs.Prelude.{◌≡◌, ◌≢◌, ℕ, List, Option}
-use Rattle.prof_base.specs.Causes.{Rose}
-use Rattle.prof_outer.specs.Told.{AppendsWhole, AppendsPart}
+use Rattle.std.specs.Prelude.{◌≡◌, ℕ, List, Option}
 use Rattle.prof_top.specs.Command.{IsRun}
 use Rattle.prof_top.specs.Ending.{status_of, line_of}
+use Rattle.prof_top.specs.Written.{IsWritten}
 use Rattle.prof_top.specs.declared.ending.Ending.{Ending}
 use Rattle.prof_top.specs.declared.ending.Ending.TheVariants.{ProgramRefused, Missing, CannotRead}
 
@@ -13,11 +12,6 @@ IsNamed words (ProgramRefused name line cause) = (every : ℕ) × IsRun words na
 IsNamed words (Missing name) = (every : ℕ) × IsRun words name every
 IsNamed words (CannotRead name) = (every : ℕ) × IsRun words name every
 IsNamed words other = Unit {0}
-
--- this was written, or a front of it where the writing failed or there was no memory
-pub record IsWritten (line : List ℕ) (status : ℕ) (before now : Option (List ℕ)) (faults faults' : ℕ) : Type 0 where
-  pub part : AppendsPart before now line
-  pub whole : ¬ Rose faults faults' → status ≢ 6 → AppendsWhole before now line
 
 -- the line of error of a call that ended with this status: no bytes for status 0
 pub record IsSaid (words : List (List ℕ)) (status : ℕ) (before now : Option (List ℕ)) (faults faults' : ℕ) : Type 0 where

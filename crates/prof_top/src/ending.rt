@@ -3,7 +3,7 @@ ghost use Rattle.std.specs.Prelude.{◌≡◌, ◌⊎◌, ◌≤◌, IfOk, OnOk,
 ghost use Rattle.prof_base.specs.Causes.{Rose};
 ghost use Rattle.prof_outer.specs.Told.{AppendsWhole, AppendsPart};
 ghost use Rattle.prof_top.specs.Ending.{status_of, cause_word, refused_line, line_of, told};
-ghost use Rattle.prof_top.specs.Said.{IsWritten};
+ghost use Rattle.prof_top.specs.Written.{IsWritten};
 
 use guest_text::ProgramCause;
 use prof_base::Text;

@@ -2,7 +2,7 @@ use Rattle.std.proofs.Common.{sym, subst}
 use Rattle.prof_top.proofs.Saying.{written_of}
 use Rattle.prof_top.proofs.ending.tell.Goals as goal
 use Rattle.prof_top.specs.Ending.{status_of, line_of}
-use Rattle.prof_top.specs.Said.{IsWritten}
+use Rattle.prof_top.specs.Written.{IsWritten}
 
 pub returns-clause-written : goal.returns-clause-written
 returns-clause-written g c =
