@@ -18,7 +18,7 @@ use Rattle.prof_top.specs.Written.{IsWritten}
 use Rattle.prof_top.specs.declared.ending.Ending.{Ending}
 use Rattle.prof_top.specs.HandedOut.{Told, AddsParts, IsHandedOut}
 use Rattle.prof_top.specs.PrintedText.{one_file, delivered_of, file_line, printed_text}
-use Rattle.prof_top.specs.Log.{IsRun}
+use Rattle.prof_top.specs.Log.{IsWholeRun}
 use Rattle.prof_top.specs.RunSchedule.{IsDone}
 
 -- how many files were delivered, of one
@@ -159,7 +159,7 @@ handed_out lines file ending delivered written before now ends delivers writes =
     subst (λ e. IsHandedOut (one_file file) (λ files. lines ++ flat_map file_line files) (status_of e) before now) (sym ends) (handed_so lines file delivered written before now delivers writes)
 
 -- the schedules of a run, and what has come out of it
-pub run_handed : (funcs : List Func) (every : ℕ) (schedules : List Schedule) (lines file lines' file' : List ℕ) (status : ℕ) (before now : Told) → IsRun funcs every schedules lines file
+pub run_handed : (funcs : List Func) (every : ℕ) (schedules : List Schedule) (lines file lines' file' : List ℕ) (status : ℕ) (before now : Told) → IsWholeRun funcs every schedules lines file
     → lines' ≡ lines → file' ≡ file → IsHandedOut (one_file file') (λ files. lines' ++ flat_map file_line files) status before now
     → AllByRecursion (λ schedule. IsDone funcs every schedule status before now) schedules
 run_handed funcs every schedules lines file lines' file' status before now run same_lines same_file handed =

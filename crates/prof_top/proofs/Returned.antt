@@ -9,7 +9,7 @@ use Rattle.prof_outer.specs.Files.{FileMap}
 use Rattle.record_text.specs.declared.schedule.Schedule.{Schedule}
 use Rattle.prof_top.proofs.Handed.{handed_at_last}
 use Rattle.prof_top.specs.Ending.{status_of}
-use Rattle.prof_top.specs.HandedOut.{Told, IsHandedOut}
+use Rattle.prof_top.specs.HandedOut.{Told}
 use Rattle.prof_top.specs.PrintedText.{printed_text}
 use Rattle.prof_top.specs.RunSchedule.{IsDone}
 use Rattle.prof_top.specs.Schedules.{IsLoaded, OfRun}
@@ -45,10 +45,7 @@ each_of words held status before now schedules P holds done =
     all_mapped (IsReturned words held status before now) (λ schedule. OfRun words held (λ funcs every. P funcs every schedule)) schedules
     (λ schedule is. (is.0, is.1, is.2, holds is.0 is.1 schedule is.3)) done
 
--- what has come out of each run, by the status of the call
-pub handed_each : (words : List (List ℕ)) (held : Option FileMap) (status number : ℕ) (before now : Told) (schedules : List Schedule) → number ≡ status
-    → AllByRecursion (IsReturned words held status before now) schedules
-    → AllByRecursion (λ schedule. OfRun words held (λ funcs every. IsHandedOut (plain_files funcs schedule) (printed_text funcs schedule) number before now)) schedules
-handed_each words held status number before now schedules same done =
-    each_of words held status before now schedules (λ funcs every schedule. IsHandedOut (plain_files funcs schedule) (printed_text funcs schedule) number before now)
-    (λ funcs every schedule is. subst (λ s. IsHandedOut (plain_files funcs schedule) (printed_text funcs schedule) s before now) (sym same) is.handed) done
+-- the same by the status of the call
+pub returned_with : (words : List (List ℕ)) (held : Option FileMap) (status number : ℕ) (before now : Told) (schedules : List Schedule) → number ≡ status
+    → AllByRecursion (IsReturned words held status before now) schedules → AllByRecursion (IsReturned words held number before now) schedules
+returned_with words held status number before now schedules same done = subst (λ s. AllByRecursion (IsReturned words held s before now) schedules) (sym same) done

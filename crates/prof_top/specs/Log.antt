@@ -52,7 +52,7 @@ pub record IsRecorded (funcs : List Func) (every : ℕ) (schedule : Schedule) (s
   pub silent : (plain funcs (last_step schedule.entries)).printed ≡ []
 
 -- the schedules of a run, which are one, with the lines that are printed of it and the text of its file
-pub record IsRun (funcs : List Func) (every : ℕ) (schedules : List Schedule) (lines file : List ℕ) : Type 0 where
+pub record IsWholeRun (funcs : List Func) (every : ℕ) (schedules : List Schedule) (lines file : List ℕ) : Type 0 where
   pub schedule : Schedule
   pub one : schedules ≡ schedule ∷ []
   pub run : IsRunSchedule funcs every schedule

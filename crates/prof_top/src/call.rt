@@ -2,14 +2,11 @@
 ghost use Rattle.std.specs.Prelude.{◌≡◌, ◌⊎◌, ◌≤◌, [], length, map, string_bytes};
 ghost use Rattle.std.specs.List.{AllByRecursion};
 ghost use Rattle.isolate.specs.Fits.{Fits};
-ghost use Rattle.isolate.specs.PlainFile.{plain_files};
 ghost use Rattle.prof_base.specs.Causes.{Rose};
 ghost use Rattle.record_text.specs.Schedule.{IsLegal};
 ghost use Rattle.prof_top.specs.Command.{IsCommand, NamesProgram};
 ghost use Rattle.prof_top.specs.Held.{LacksFile, HoldsUnreadable, MayReadProgram};
 ghost use Rattle.prof_top.specs.Ending.{status_of};
-ghost use Rattle.prof_top.specs.HandedOut.{IsHandedOut};
-ghost use Rattle.prof_top.specs.PrintedText.{printed_text};
 ghost use Rattle.prof_top.specs.RunSchedule.{IsDone};
 ghost use Rattle.prof_top.specs.Said.{IsNamed, IsSaid};
 ghost use Rattle.prof_top.specs.Schedules.{OfRun, IsHead, IsAfterRun, IsBeforeRun, HasSchedules};
@@ -166,7 +163,8 @@ pub(crate) fn once<D: Depot, S: OutputStream, O: Sink, E: Sink>(
 ///
 /// `run PROG EVERY` reads the program under the name PROG, runs it under a clock that counts its
 /// steps as microseconds, with one session from the first step to the end, and takes a sample at
-/// each multiple of EVERY. It delivers the session's file to the stream and prints to `out`.
+/// each multiple of EVERY. It delivers the session's file to the stream, prints to `out`, and hands
+/// the run's schedule back.
 pub fn cpuprof_once<D: Depot, O: Sink, E: Sink>(
     alloc: Global,
     words: &[String],
@@ -203,10 +201,10 @@ pub fn cpuprof_once<D: Depot, O: Sink, E: Sink>(
     ensures clock { (result.status ≡ 6) ⊎ AllByRecursion (λ schedule. OfRun (map string_bytes words.now) (D.held depot.old)
         (λ funcs every. IsStepClock funcs every 1000000 1048576 schedule.entries)) result.schedules }
 
-    // What has come out of the run: its files through the stream, its text through `out`. Nothing
-    // where nothing ran.
+    // All of that for one and the same program, and what has come out of its run: its files through
+    // the stream, its text through `out`. Nothing where nothing ran.
     ensures handed { AllByRecursion (λ schedule. OfRun (map string_bytes words.now) (D.held depot.old)
-        (λ funcs every. IsHandedOut (plain_files funcs schedule) (printed_text funcs schedule) result.status
+        (λ funcs every. IsDone funcs every schedule result.status
         (record {
           parts = parts stream;
           aborts = aborts stream;

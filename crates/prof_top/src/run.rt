@@ -8,7 +8,7 @@ ghost use Rattle.prof_outer.specs.Told.{AppendsWhole, AppendsPart};
 ghost use Rattle.isolate.specs.PlainFile.{plain_files};
 ghost use Rattle.prof_top.specs.Ending.{run_ending, status_of, IsRunEnding};
 ghost use Rattle.prof_top.specs.HandedOut.{IsHandedOut};
-ghost use Rattle.prof_top.specs.Log.{IsRecorded, IsRun};
+ghost use Rattle.prof_top.specs.Log.{IsRecorded, IsWholeRun};
 ghost use Rattle.prof_top.specs.PrintedText.{file_line, delivered_of, one_file};
 ghost use Rattle.prof_top.specs.RunSchedule.{IsDone};
 ghost use Rattle.prof_top.specs.Schedules.{HasSchedules};
@@ -63,7 +63,7 @@ fn record_run(alloc: Global, program: &Program, every: u32) -> Result<Recorded, 
     requires low { 1 ≤ every }
     requires high { every ≤ MAX_INTERVAL }
     requires straight { IsStraight program.now }
-    ensures run { IfOk result (λ recorded. IsRun program.now every recorded.schedules (string_bytes recorded.lines) recorded.file) }
+    ensures run { IfOk result (λ recorded. IsWholeRun program.now every recorded.schedules (string_bytes recorded.lines) recorded.file) }
     ensures some { IfOk result (λ recorded. 0 < length recorded.file) }
 {
     let recording = record(alloc, program, every)?;

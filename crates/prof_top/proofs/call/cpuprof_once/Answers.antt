@@ -1,6 +1,6 @@
 use Rattle.std.proofs.Common.{inr, map, string_bytes}
 use Rattle.isolate.specs.Fits.{Fits}
-use Rattle.prof_top.proofs.Returned.{each_of, handed_each}
+use Rattle.prof_top.proofs.Returned.{each_of, returned_with}
 use Rattle.prof_top.proofs.call.cpuprof_once.Goals as goal
 use Rattle.prof_top.specs.Ending.{status_of}
 use Rattle.prof_top.specs.Schedules.{IsHead}
@@ -23,5 +23,5 @@ returns-clause-clock g c =
 
 pub returns-clause-handed : goal.returns-clause-handed
 returns-clause-handed g c =
-    handed_each (map string_bytes c.args.words.now) (g.D.Depot.held c.args.depot.now) (status_of c.once-ran.result.ending) c.status.result _ _ c.once-ran.result.schedules
+    returned_with (map string_bytes c.args.words.now) (g.D.Depot.held c.args.depot.now) (status_of c.once-ran.result.ending) c.status.result _ _ c.once-ran.result.schedules
     c.status.ensures c.once-ran.ensures.kept
