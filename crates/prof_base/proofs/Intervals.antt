@@ -6,6 +6,7 @@ use Rattle.std.proofs.Math.Nat.{dvd-mul_left, dvd-sub}
 use Rattle.std.proofs.lemmas.Nat.Gcd.{le_of_dvd, dvd_trans}
 use Rattle.std.proofs.lemmas.Grind.{div_ceil_times}
 use Rattle.prof_base.specs.Interval.{rounded_of, IsRounded, DividesEach, IsSourceInterval}
+use Rattle.prof_base.specs.declared.interval.TheConstants.{MAX_ROUNDED}
 
 le_or_lt : (m n : ℕ) → (m ≤ n) ⊎ (n < m)
 le_or_lt m n = grind arith
@@ -58,7 +59,7 @@ source_of_more base i source next intervals s g = record {
 }
 
 -- the common divisor is no greater than the interval that has come
-pub source_stays_small : (source r next : ℕ) → IsGcd source r next → 0 < r → r ≤ 2000000000 → next ≤ 2000000000
+pub source_stays_small : (source r next : ℕ) → IsGcd source r next → 0 < r → r ≤ MAX_ROUNDED → next ≤ MAX_ROUNDED
 source_stays_small source r next g some small = omega (arith, le_of_dvd some g.1)
 
 -- the next of the intervals has come

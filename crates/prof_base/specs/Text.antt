@@ -1,12 +1,13 @@
 -- What a text is.
 use Rattle.std.specs.Prelude.{ℕ, ◌≤◌, List, length, Bool, ◌&&◌, nat_le}
 use Rattle.std.specs.List.{AllPass}
+use Rattle.prof_base.specs.declared.text.TheConstants.Text.{MAX_LEN}
 
 -- a byte of printable ASCII, the space among them
 abbrev pub is_printable : ℕ → Bool
 is_printable b = nat_le 0x20 b && nat_le b 0x7E
 
--- at most 200 printable bytes
+-- printable bytes, at most as many as a text may have
 pub record IsText (bytes : List ℕ) : Type 0 where
-  pub short : length bytes ≤ 200
+  pub short : length bytes ≤ MAX_LEN
   pub printable : AllPass is_printable bytes

@@ -1,5 +1,5 @@
 // Names of things by number, and times.
-ghost use Rattle.std.specs.Prelude.{◌≡◌, ◌<◌, ◌^◌};
+ghost use Rattle.std.specs.Prelude.{◌≡◌, ◌≤◌};
 
 use std::marker::Model;
 
@@ -19,13 +19,14 @@ pub struct Micros {
 }
 
 impl Model for Micros {
-    ghost use Rattle.std.specs.Prelude.{ℕ, ◌<◌, ◌^◌};
+    ghost use Rattle.std.specs.Prelude.{ℕ, ◌≤◌};
+    ghost use Rattle.prof_base.specs.declared.ids.TheConstants.Micros.{MAX};
 
     ghost Value = { ℕ };
 
     ghost view = { λ m. m.value };
 
-    ghost invariant = { λ m. m.value < 2 ^ 53 };
+    ghost invariant = { λ m. m.value ≤ MAX };
 
     ghost inverse = { λ n. record { value = n } };
 }
@@ -36,7 +37,7 @@ impl Micros {
 
     /// The time that lies so many microseconds after the clock's start.
     pub fn new(value: u64) -> Micros
-        requires { value < 2 ^ 53 }
+        requires { value ≤ Micros.MAX }
         ensures { result ≡ value }
     {
         Micros { value }
@@ -45,7 +46,7 @@ impl Micros {
     /// The microseconds since the clock's start.
     pub fn value(self) -> u64
         ensures value { result ≡ self }
-        ensures bound { result < 2 ^ 53 }
+        ensures bound { result ≤ Micros.MAX }
     {
         self.value
     }

@@ -1,9 +1,10 @@
 //! Values that every layer names: short printable texts, identifiers, times, lists that contracts
-//! see as lists, sampling intervals, and want of memory.
+//! see as lists, sampling intervals, and the answer for out of memory.
 #![tactic(auto)]
 
 mod ids;
 mod interval;
+pub mod laws;
 mod memory;
 mod sequence;
 mod text;

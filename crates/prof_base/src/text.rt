@@ -8,6 +8,7 @@ use crate::memory::Memory;
 use std::alloc::Global;
 use std::marker::Model;
 use std::str;
+use std::sync::Arc;
 
 /// Why bytes were not taken as a [`Text`].
 #[derive(Clone, Copy, Debug, PartialEq, Eq)]
@@ -21,21 +22,22 @@ pub enum TextRefused {
     Memory,
 }
 
-/// 0 to 200 bytes, each from 0x20 to 0x7E.
+/// 0 to 200 bytes, each from 0x20 to 0x7E. Copies of a text share its bytes.
 #[derive(Debug, Drop)]
 pub struct Text {
-    bytes: Vec<u8>,
+    bytes: Arc<Vec<u8>>,
 }
 
 impl Model for Text {
     ghost use Rattle.std.specs.Prelude.{List, ℕ};
+    ghost use Rattle.std.specs.Arc.{arc_value};
     ghost use Rattle.prof_base.specs.Text.{IsText};
 
     ghost Value = { List ℕ };
 
-    ghost view = { λ t. t.bytes.items };
+    ghost view = { λ t. (arc_value t.bytes).items };
 
-    ghost invariant = { λ t. IsText t.bytes.items };
+    ghost invariant = { λ t. IsText (arc_value t.bytes).items };
 }
 
 fn is_printable(byte: u8) -> bool
@@ -69,17 +71,21 @@ impl Text {
         if let Some(at) = first_unprintable(bytes) {
             return Err(TextRefused::NotPrintable { at });
         }
-        match bytes.to_vec(alloc) {
+        let Ok(owned) = bytes.to_vec(alloc) else {
+            return Err(TextRefused::Memory);
+        };
+        match Arc::new(alloc, owned) {
             Ok(bytes) => Ok(Text { bytes }),
             Err(_) => Err(TextRefused::Memory),
         }
     }
 
-    /// A text with the same bytes, on the same allocator.
+    /// A text that shares the bytes of this one. It copies no bytes and takes no memory, and is
+    /// refused only where the number of sharers cannot be counted.
     pub fn copy(&self) -> Result<Text, Memory>
         ensures { IfOk result (λ text. text ≡ self.now) }
     {
-        let bytes = self.bytes.to_vec(*self.bytes.allocator())?;
+        let bytes = self.bytes.clone()?;
         Ok(Text { bytes })
     }
 
@@ -95,7 +101,7 @@ impl Text {
     pub fn as_str(&self) -> &str
         ensures { result.now ≡ self.now }
     {
-        match str::from_utf8(&self.bytes) {
+        match str::from_utf8(self.bytes()) {
             Ok(text) => text,
             Err(_) => unreachable!(),
         }
