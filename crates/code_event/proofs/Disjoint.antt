@@ -6,12 +6,12 @@ use Rattle.std.specs.List.{AllByRecursion}
 use Rattle.std.specs.Option.{option_map_or}
 use Rattle.code_event.proofs.Counts.{IsRising, counted_within_one}
 use Rattle.code_event.proofs.EachElement.{all_filtered, all_pass, all_mapped, all_pushed}
-use Rattle.code_event.specs.CodeRanges.{meets, with_range, without_range, range_at, range_of, after_event, after_events}
+use Rattle.code_event.specs.CodeMap.{meets, with_range, without_range, range_at, range_of, after_event, after_events}
 use Rattle.code_event.specs.Laws.{AreDisjoint, RangesAreDisjoint, MeetingIsMutual, AddressesHaveOneOwner}
-use Rattle.code_event.specs.Steps.{holds}
+use Rattle.code_event.specs.Symbolizer.{holds}
 use Rattle.code_event.specs.declared.event.CodeEvent.{CodeEvent}
 use Rattle.code_event.specs.declared.event.CodeEvent.TheVariants.{Create, Move, NoOpt, Deopt, Delete, Start, Stop, Finish}
-use Rattle.code_event.specs.declared.ranges.Range.{Range}
+use Rattle.code_event.specs.declared.code_map.Range.{Range}
 
 untrue : (b : Bool) → not b ≡ true → b ≡ false
 untrue true e = absurd (cc)

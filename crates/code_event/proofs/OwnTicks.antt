@@ -1,19 +1,20 @@
 -- That a session's recording does not depend on ticks for other sessions.
 use Rattle.std.proofs.Common.{◌≡◌, ℕ, List, [], ◌∷◌, ◌++◌, refl, ap, sym, ◌∙◌}
 use Rattle.std.specs.Prelude.{Bool, true, false, cond, Option, Some, None, option_map, filter, ◌==◌}
-use Rattle.code_event.specs.KeptTicks.{is_for, with_tick, recording_behind, ended, kept}
+use Rattle.code_event.specs.Recording.{is_for, with_tick, recording_behind, ended}
+use Rattle.code_event.specs.Subsample.{kept}
 use Rattle.code_event.specs.Laws.{concerns, RecordingsAreTheirOwn, KeptTicksAreTheirOwn}
 use Rattle.code_event.specs.Seen.{Seen, started, stopped, finished, ticked}
-use Rattle.code_event.specs.declared.kept.Begun.{Begun}
-use Rattle.code_event.specs.declared.seen.SeenTick.{SeenTick}
+use Rattle.code_event.specs.declared.recording.Begun.{Begun}
+use Rattle.code_event.specs.declared.seen.ResolvedTick.{ResolvedTick}
 
 -- a tick for another session changes nothing
-passed_by : (session : ℕ) (tick : SeenTick) (begun : Option Begun) → is_for session tick.only ≡ false → option_map (with_tick session tick) begun ≡ begun
+passed_by : (session : ℕ) (tick : ResolvedTick) (begun : Option Begun) → is_for session tick.only ≡ false → option_map (with_tick session tick) begun ≡ begun
 passed_by session tick None other = refl
 passed_by session tick (Some begun) other = ap (λ b. Some (cond b (record begun { ticks = begun.ticks ++ tick ∷ [] }) begun)) other
 
 -- one tick more, by whether it is for the session
-own_tick : (session : ℕ) (tick : SeenTick) (seen : List Seen) (begun : Option Begun) (b : Bool) → is_for session tick.only ≡ b
+own_tick : (session : ℕ) (tick : ResolvedTick) (seen : List Seen) (begun : Option Begun) (b : Bool) → is_for session tick.only ≡ b
     → ((so_far : Option Begun) → recording_behind session so_far (filter (concerns session) seen) ≡ recording_behind session so_far seen)
     → recording_behind session begun (cond b (ticked tick ∷ filter (concerns session) seen) (filter (concerns session) seen)) ≡ recording_behind session (option_map (with_tick session tick) begun) seen
 own_tick session tick seen begun true own behind = behind (option_map (with_tick session tick) begun)

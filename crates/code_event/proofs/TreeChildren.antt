@@ -7,11 +7,11 @@ use Rattle.std.proofs.lemmas.Cmp.{tied_itself}
 use Rattle.std.proofs.lemmas.List.{map-append}
 use Rattle.std.proofs.lemmas.List.Folds.{flat_map-map}
 use Rattle.std.proofs.lemmas.List.Sorted.{IsPermutation-refl, IsPermutation-sym, IsPermutation-trans, IsPermutation-append_right, IsPermutation-filter_both, IsPermutation-map}
-use Rattle.code_event.specs.CodeRanges.{Reasons}
+use Rattle.code_event.specs.DeoptReasons.{DeoptReasons}
 use Rattle.code_event.specs.Tree.{path_cmp, nodes, id_of, is_below, same_path, children, fin_node, fin_nodes}
 use Rattle.code_event.specs.TreeLaws.{numbers_from}
 use Rattle.code_event.specs.declared.path.PathStep.{PathStep}
-use Rattle.code_event.specs.declared.tree.Visit.{Visit}
+use Rattle.code_event.specs.declared.visit.Visit.{Visit}
 use Rattle.code_event.proofs.TreeOrder.{Has, has_from_contains, contains_from_has, Rises, after_has, places_number}
 use Rattle.code_event.proofs.TreeIds.{path_total, nodes_rise}
 use Rattle.code_event.proofs.TreePaths.{parent_is_front}
@@ -122,7 +122,7 @@ children_of (root ∷ rest) first rises above =
     subst (λ n. IsPermutation (flat_map (children (root ∷ rest)) (root ∷ rest)) (numbers_from 2 n)) (sym less)
     (subst Goal (sym same) (λ up over. children_number rest up (λ node has. over node (inr has) (not_root node (after_has path_cmp [] node rest up.0 has)))) rises above)
 
-pub children_listed : (visits : List Visit) (reasons : Reasons) → IsPermutation (flat_map (λ node. node.children) (fin_nodes visits reasons)) (numbers_from 2 (length (nodes visits) - 1))
+pub children_listed : (visits : List Visit) (reasons : DeoptReasons) → IsPermutation (flat_map (λ node. node.children) (fin_nodes visits reasons)) (numbers_from 2 (length (nodes visits) - 1))
 children_listed visits reasons =
     let all = nodes visits in
     subst (λ l. IsPermutation l (numbers_from 2 (length all - 1))) (sym (flat_map-map (λ node. node.children) (fin_node all visits reasons) all))

@@ -9,9 +9,9 @@ use Rattle.std.proofs.lemmas.List.Sums.{sum_by-cons}
 use Rattle.std.proofs.lemmas.Bool.Decides.{nat_tests}
 use Rattle.std.proofs.lemmas.Map.Lookups.{exact_unsigned}
 use Rattle.code_event.specs.declared.path.PathStep.{PathStep}
-use Rattle.code_event.specs.declared.tree.Visit.{Visit}
-use Rattle.code_event.specs.declared.finished.LineTicks.{LineTicks}
-use Rattle.code_event.specs.CodeRanges.{Reasons}
+use Rattle.code_event.specs.declared.visit.Visit.{Visit}
+use Rattle.code_event.specs.declared.profile.LineTicks.{LineTicks}
+use Rattle.code_event.specs.DeoptReasons.{DeoptReasons}
 use Rattle.code_event.specs.Tree.{path_cmp, same_path, nodes, hits_node, hits, hits_at, with_number, hit_lines, line_ticks, fin_node, fin_nodes}
 use Rattle.code_event.proofs.TreeOrder.{Has, AllAfter, Rises, after_has, put, put_rises, put_has, put_keeps, after_put}
 use Rattle.code_event.proofs.TreeIds.{path_total, nodes_rise}
@@ -64,7 +64,7 @@ module _ {K : Type 0} (R : K → K → Ordering) (o : IsTotalOrder R) (E : K →
       ∙ ap₂ (λ m n. m + n) (share ns rises (test v) (key v) (all v (inl refl))) (counted_once test key ns rises vs (λ w h. all w (inr h)))
       ∙ sym (count-cons test v vs)
 
-pub hits_counted_once : (visits : List Visit) (reasons : Reasons) → sum_by (λ node. node.hits) (fin_nodes visits reasons) ≡ count_by (λ visit. visit.hit) visits
+pub hits_counted_once : (visits : List Visit) (reasons : DeoptReasons) → sum_by (λ node. node.hits) (fin_nodes visits reasons) ≡ count_by (λ visit. visit.hit) visits
 hits_counted_once visits reasons =
     sum_by-map (λ node. node.hits) (fin_node (nodes visits) visits reasons) (nodes visits)
     ∙ counted_once path_cmp path_total same_path (λ x y. refl) (λ visit. visit.hit) (λ visit. visit.path) (nodes visits) (nodes_rise visits) visits

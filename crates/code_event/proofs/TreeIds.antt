@@ -3,12 +3,12 @@ use Rattle.std.proofs.Common.{◌≡◌, List, [], ◌∷◌, length, map, cond,
 use Rattle.std.specs.Cmp.{IsTotalOrder}
 use Rattle.std.proofs.lemmas.Cmp.{nat_cmp_total, nat_list_cmp_total, on_total, then_total, lists_total}
 use Rattle.code_event.specs.declared.path.PathStep.{PathStep}
-use Rattle.code_event.specs.declared.tree.Visit.{Visit}
-use Rattle.code_event.specs.Tree.{step_cmp, path_cmp, with_path, with_paths, prefixes, nodes, id_of}
+use Rattle.code_event.specs.declared.visit.Visit.{Visit}
+use Rattle.code_event.specs.Tree.{path_step_cmp, path_cmp, with_path, with_paths, prefixes, nodes, id_of}
 use Rattle.code_event.specs.TreeLaws.{numbers_from}
 use Rattle.code_event.proofs.TreeOrder.{Rises, put, put_rises, places_number}
 
-pub step_total : IsTotalOrder step_cmp
+pub step_total : IsTotalOrder path_step_cmp
 step_total =
     then_total (on_total (λ s. s.entry.name) nat_list_cmp_total)
     (then_total (on_total (λ s. s.entry.url) nat_list_cmp_total)

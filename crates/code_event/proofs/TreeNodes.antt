@@ -2,9 +2,9 @@
 use Rattle.std.proofs.Common.{◌≡◌, ◌↔◌, ◌≤◌, List, [], ◌∷◌, length, map, ◌⊎◌, inl, inr, refl, sym, subst, arith, append-nil, Some}
 use Rattle.std.specs.List.{Contains, slice_get, All, AllByRecursion}
 use Rattle.std.proofs.lemmas.List.Elements.{All-from_recursion}
-use Rattle.code_event.specs.Finished.{samples}
+use Rattle.code_event.specs.Profile.{samples}
 use Rattle.code_event.specs.declared.path.PathStep.{PathStep}
-use Rattle.code_event.specs.declared.tree.Visit.{Visit}
+use Rattle.code_event.specs.declared.visit.Visit.{Visit}
 use Rattle.code_event.specs.Tree.{path_cmp, with_path, with_paths, prefixes, nodes, id_of}
 use Rattle.code_event.specs.TreeLaws.{BeginsSome}
 use Rattle.prof_base.specs.Prefix.{IsPrefix}

@@ -3,7 +3,7 @@ use Rattle.std.proofs.Common.{◌≡◌, ◌≢◌, ℕ, suc, ◌-◌, ◌<◌, 
 use Rattle.std.specs.List.{Contains}
 use Rattle.std.proofs.lemmas.Cmp.{tied_itself}
 use Rattle.code_event.specs.declared.path.PathStep.{PathStep}
-use Rattle.code_event.specs.declared.tree.Visit.{Visit}
+use Rattle.code_event.specs.declared.visit.Visit.{Visit}
 use Rattle.code_event.specs.Tree.{path_cmp, nodes, id_of, is_below}
 use Rattle.code_event.specs.TreeLaws.{BeginsSome, HasOneParent}
 use Rattle.code_event.proofs.TreeOrder.{Has, has_from_contains, contains_from_has, before_less}

@@ -6,7 +6,7 @@ use Rattle.std.specs.Cmp.Lexicographic.{slice_cmp}
 use Rattle.std.proofs.lemmas.Cmp.{tied_back}
 use Rattle.std.proofs.lemmas.Map.Lookups.{CmpEqualImpliesEq, exact_unsigned, exact_bytes}
 use Rattle.code_event.specs.declared.path.PathStep.{PathStep}
-use Rattle.code_event.specs.Tree.{step_cmp, path_cmp, prefixes, is_below, same_path}
+use Rattle.code_event.specs.Tree.{path_step_cmp, path_cmp, prefixes, is_below, same_path}
 use Rattle.prof_base.specs.Prefix.{IsPrefix}
 use Rattle.code_event.proofs.TreeOrder.{Has}
 use Rattle.code_event.proofs.TreeIds.{step_total}
@@ -25,7 +25,7 @@ both_true : (a b : Bool) → (a && b) ≡ true → (a ≡ true) × (b ≡ true)
 both_true true b e = (refl, e)
 both_true false b e = absurd (true≢false (sym e))
 
-exact_step : CmpEqualImpliesEq step_cmp
+exact_step : CmpEqualImpliesEq path_step_cmp
 exact_step x y e =
     let name = both_equal _ _ e in
     let url = both_equal _ _ name.1 in
@@ -50,7 +50,7 @@ exact_lists R exact (x ∷ xs) [] e = absurd (true≢false (ap is_gt e))
 exact_lists R exact (x ∷ xs) (y ∷ ys) e = let both = both_equal (R x y) (slice_cmp R xs ys) e in ap₂ (λ z zs. z ∷ zs) (exact x y both.0) (exact_lists R exact xs ys both.1)
 
 pub exact_path : CmpEqualImpliesEq path_cmp
-exact_path = exact_lists step_cmp exact_step
+exact_path = exact_lists path_step_cmp exact_step
 
 -- ---- prefixes
 
@@ -97,7 +97,7 @@ below_parts parent node h =
     (eqb-true (length node) (suc (length parent)) both.0, is_equal (path_cmp (take (length parent) node) parent) both.1)
 
 pub below_is_after : (parent node : List PathStep) → is_below parent node ≡ true → path_cmp parent node ≡ Less
-below_is_after parent node h = let both = below_parts parent node h in shorter_first step_cmp step_total parent node both.0 both.1
+below_is_after parent node h = let both = below_parts parent node h in shorter_first path_step_cmp step_total parent node both.0 both.1
 
 pub parent_is_front : (parent node : List PathStep) → is_below parent node ≡ true → parent ≡ take (length node - 1) node
 parent_is_front parent node h =

@@ -4,17 +4,18 @@ use Rattle.std.specs.Prelude.{false, map, option_map, ℕ, ◌≤◌, List, [], 
 use Rattle.prof_base.specs.declared.ids.SessionId.{SessionId}
 use Rattle.code_event.specs.Parts.{LayoutParts}
 use Rattle.code_event.specs.ItemList.{stamped}
-use Rattle.code_event.specs.CodeRanges.{ranges}
-use Rattle.code_event.specs.Steps.{special}
+use Rattle.code_event.specs.CodeMap.{ranges}
+use Rattle.code_event.specs.Symbolizer.{special}
 use Rattle.code_event.specs.Seen.{seen_items}
-use Rattle.code_event.specs.KeptTicks.{recording, kept}
+use Rattle.code_event.specs.Recording.{recording}
+use Rattle.code_event.specs.Subsample.{kept}
 use Rattle.code_event.specs.ItemFile.{session}
-use Rattle.code_event.specs.declared.ranges.Range.{Range}
-use Rattle.code_event.specs.declared.seen.Step.{Step}
+use Rattle.code_event.specs.declared.code_map.Range.{Range}
+use Rattle.code_event.specs.declared.seen.ResolvedFrame.{ResolvedFrame}
 use Rattle.code_event.specs.declared.path.PathStep.{PathStep}
-use Rattle.code_event.specs.declared.finished.LineTicks.{LineTicks}
-use Rattle.code_event.specs.declared.finished.FinNode.{FinNode}
-use Rattle.code_event.specs.declared.finished.Finished.{Finished}
+use Rattle.code_event.specs.declared.profile.LineTicks.{LineTicks}
+use Rattle.code_event.specs.declared.profile.FinNode.{FinNode}
+use Rattle.code_event.specs.declared.profile.Finished.{Finished}
 use Rattle.code_event.specs.declared.entry.Entry.{Entry}
 use Rattle.code_event.specs.declared.layout.Unit.{Unit as CodeUnit}
 use Rattle.code_event.specs.declared.layout.Site.{Site}
@@ -79,8 +80,8 @@ inlining =
 abbrev pub inlined : List Range
 inlined = ranges (Create 200 inlining ∷ [])
 
-abbrev pub step : List ℕ → ℕ → ℕ → Step
-step name line at = record { entry = entry name line 1; line = at }
+abbrev pub frame : List ℕ → ℕ → ℕ → ResolvedFrame
+frame name line at = record { entry = entry name line 1; line = at }
 
 abbrev pub path_step : List ℕ → ℕ → ℕ → PathStep
 path_step name line call_line = record { entry = entry name line 1; call_line = call_line }

@@ -4,11 +4,11 @@ use Rattle.std.specs.List.{join_with_byte}
 use Rattle.json.specs.Print.{quoted}
 use Rattle.prof_base.specs.declared.ids.SessionId.{SessionId}
 use Rattle.code_event.specs.Seen.{Seen}
-use Rattle.code_event.specs.Finished.{finished_of}
+use Rattle.code_event.specs.Profile.{finished_of}
 use Rattle.code_event.specs.declared.entry.Entry.{Entry}
-use Rattle.code_event.specs.declared.finished.FinNode.{FinNode}
-use Rattle.code_event.specs.declared.finished.LineTicks.{LineTicks}
-use Rattle.code_event.specs.declared.finished.Finished.{Finished}
+use Rattle.code_event.specs.declared.profile.FinNode.{FinNode}
+use Rattle.code_event.specs.declared.profile.LineTicks.{LineTicks}
+use Rattle.code_event.specs.declared.profile.Finished.{Finished}
 use Rattle.std.specs.Option.{option_map}
 
 -- texts in brackets, with commas between

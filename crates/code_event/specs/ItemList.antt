@@ -50,13 +50,13 @@ abbrev pub without : ℕ → List ℕ → List ℕ
 without n ns = filter (λ m. not (m == n)) ns
 
 -- what has come: the latest time, the sessions that were started, and those that run
-pub record Course : Type 0 where
+pub record ListSoFar : Type 0 where
   pub time : ℕ
   pub started : List ℕ
   pub running : List ℕ
 
 -- an event may come, and what may come after it
-abbrev pub MayCome : Course → CodeEvent → List Item → (Course → Type 0) → Type 0
+abbrev pub MayCome : ListSoFar → CodeEvent → List Item → (ListSoFar → Type 0) → Type 0
 MayCome course (Create start layout) items Then = Then course
 MayCome course (Move from to) items Then = Then course
 MayCome course (NoOpt start reason) items Then = Then course
@@ -71,12 +71,12 @@ MayCome course (Stop session time) items Then =
 MayCome course (Finish time files) items Then = (course.time ≤ time) × (items ≡ [])
 
 -- the items may come after what has come
-abbrev pub IsLegalAfter : Course → List Item → Type 0
+abbrev pub IsLegalAfter : ListSoFar → List Item → Type 0
 IsLegalAfter course [] = Unit {0}
 IsLegalAfter course (item.Event e ∷ items) = MayCome course e.event items (λ next. IsLegalAfter next items)
 IsLegalAfter course (item.Tick t ∷ items) =
     (course.time ≤ t.time) × IsLegalAfter (record { time = t.time; started = course.started; running = course.running }) items
 
 -- The list is legal: times do not fall, nothing follows a finish, no session is started twice, at most 100 run at once, and only a session that runs is stopped.
-abbrev pub IsLegal : List Item → Type 0
-IsLegal items = IsLegalAfter (record { time = 0; started = []; running = [] }) items
+abbrev pub IsLegalItems : List Item → Type 0
+IsLegalItems items = IsLegalAfter (record { time = 0; started = []; running = [] }) items

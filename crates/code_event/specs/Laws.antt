@@ -1,14 +1,15 @@
 -- What holds of the definitions for all that may come.
 use Rattle.std.specs.Prelude.{◌≡◌, ◌≤◌, ℕ, List, [], ◌∷◌, Bool, true, false, Option, option_map, filter, count_by}
 use Rattle.std.specs.List.{AllByRecursion}
-use Rattle.code_event.specs.CodeRanges.{meets, ranges}
+use Rattle.code_event.specs.CodeMap.{meets, ranges}
 use Rattle.code_event.specs.ItemList.{IsStamped, stamped}
-use Rattle.code_event.specs.KeptTicks.{is_for, kept, recording}
+use Rattle.code_event.specs.Recording.{is_for, recording}
+use Rattle.code_event.specs.Subsample.{kept}
 use Rattle.code_event.specs.Seen.{Seen, started, stopped, finished, ticked}
-use Rattle.code_event.specs.Steps.{holds}
+use Rattle.code_event.specs.Symbolizer.{holds}
 use Rattle.code_event.specs.declared.event.CodeEvent.{CodeEvent}
-use Rattle.code_event.specs.declared.ranges.Range.{Range}
-use Rattle.code_event.specs.declared.seen.SeenTick.{SeenTick}
+use Rattle.code_event.specs.declared.code_map.Range.{Range}
+use Rattle.code_event.specs.declared.seen.ResolvedTick.{ResolvedTick}
 use Rattle.code_event.specs.declared.tick.Item.{Item}
 
 -- no two of these ranges share an address: each meets none of those behind it
@@ -52,7 +53,7 @@ abbrev pub concerning : ℕ → List Seen → List Seen
 concerning session seen = filter (concerns session) seen
 
 -- the ticks that a session keeps of what is seen, by the isolate's base, if the session has a recording
-abbrev pub kept_of : ℕ → ℕ → List Seen → Option (List SeenTick)
+abbrev pub kept_of : ℕ → ℕ → List Seen → Option (List ResolvedTick)
 kept_of base session seen = option_map (λ told. kept base told.begun) (recording session seen)
 
 -- a session's recording is the same without the ticks that are for other sessions

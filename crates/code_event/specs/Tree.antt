@@ -3,21 +3,21 @@ use Rattle.std.specs.Prelude.{ℕ, suc, List, [], ◌∷◌, length, map, take, 
 use Rattle.std.specs.declared.cmp.Ordering.{Ordering}
 use Rattle.std.specs.Ordering.{is_lt, is_eq, ordering_then, nat_cmp}
 use Rattle.std.specs.Cmp.Lexicographic.{slice_cmp}
-use Rattle.code_event.specs.CodeRanges.{Reasons}
-use Rattle.code_event.specs.Steps.{special}
+use Rattle.code_event.specs.DeoptReasons.{DeoptReasons}
+use Rattle.code_event.specs.Symbolizer.{special}
 use Rattle.code_event.specs.declared.entry.Entry.{Entry}
 use Rattle.code_event.specs.declared.path.PathStep.{PathStep}
-use Rattle.code_event.specs.declared.tree.Visit.{Visit}
-use Rattle.code_event.specs.declared.finished.FinNode.{FinNode}
-use Rattle.code_event.specs.declared.finished.LineTicks.{LineTicks}
+use Rattle.code_event.specs.declared.visit.Visit.{Visit}
+use Rattle.code_event.specs.declared.profile.FinNode.{FinNode}
+use Rattle.code_event.specs.declared.profile.LineTicks.{LineTicks}
 
 -- texts by their bytes
 abbrev pub text_cmp : List ℕ → List ℕ → Ordering
 text_cmp one other = slice_cmp nat_cmp one other
 
 -- by name, url, script, line, column and the line of the call
-abbrev pub step_cmp : PathStep → PathStep → Ordering
-step_cmp one other =
+abbrev pub path_step_cmp : PathStep → PathStep → Ordering
+path_step_cmp one other =
     ordering_then (text_cmp one.entry.name other.entry.name)
     (ordering_then (text_cmp one.entry.url other.entry.url)
     (ordering_then (nat_cmp one.entry.script other.entry.script)
@@ -27,7 +27,7 @@ step_cmp one other =
 
 -- a proper prefix first, else by the first step that differs
 abbrev pub path_cmp : List PathStep → List PathStep → Ordering
-path_cmp one other = slice_cmp step_cmp one other
+path_cmp one other = slice_cmp path_step_cmp one other
 
 abbrev pub is_before : List PathStep → List PathStep → Bool
 is_before one other = is_lt (path_cmp one other)
@@ -103,7 +103,7 @@ node_entry (step ∷ []) = step.entry
 node_entry (step ∷ other ∷ steps) = node_entry (other ∷ steps)
 
 -- a node of the finished tree
-abbrev pub fin_node : List (List PathStep) → List Visit → Reasons → List PathStep → FinNode
+abbrev pub fin_node : List (List PathStep) → List Visit → DeoptReasons → List PathStep → FinNode
 fin_node nodes visits reasons node =
     record {
       entry = node_entry node;
@@ -114,5 +114,5 @@ fin_node nodes visits reasons node =
     }
 
 -- the finished nodes, in order
-abbrev pub fin_nodes : List Visit → Reasons → List FinNode
+abbrev pub fin_nodes : List Visit → DeoptReasons → List FinNode
 fin_nodes visits reasons = map (fin_node (nodes visits) visits reasons) (nodes visits)

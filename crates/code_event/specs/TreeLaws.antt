@@ -4,7 +4,7 @@ use Rattle.std.specs.List.{Contains}
 use Rattle.prof_base.specs.Prefix.{IsPrefix}
 use Rattle.code_event.specs.Tree.{is_below}
 use Rattle.code_event.specs.declared.path.PathStep.{PathStep}
-use Rattle.code_event.specs.declared.tree.Visit.{Visit}
+use Rattle.code_event.specs.declared.visit.Visit.{Visit}
 
 -- so many numbers that rise by one, of which the first is this one
 abbrev pub numbers_from : ℕ → ℕ → List ℕ

@@ -1,11 +1,11 @@
 //! The definitions, computed on worked examples. Each function does nothing: its contract is the example.
 ghost use Rattle.std.specs.Prelude.{◌≡◌, [], ◌∷◌, Some, codes};
-ghost use Rattle.code_event.specs.CodeRanges.{ranges, range_of};
-ghost use Rattle.code_event.specs.Steps.{steps_over, leaf_path, caller_path, leaf_line};
+ghost use Rattle.code_event.specs.CodeMap.{ranges, range_of};
+ghost use Rattle.code_event.specs.Symbolizer.{frames_over, leaf_path, caller_path, leaf_line};
 ghost use Rattle.code_event.specs.Seen.{seen_items};
-ghost use Rattle.code_event.specs.Finished.{finished_of};
+ghost use Rattle.code_event.specs.Profile.{finished_of};
 ghost use Rattle.code_event.specs.ItemFile.{item_file, session};
-ghost use Rattle.code_event.specs.Examples.{overlap_fold, overlap_file, inlined, step, path_step, three_slots, two_sessions, first_of_two, second_of_two, two_intervals, kept_times};
+ghost use Rattle.code_event.specs.Examples.{overlap_fold, overlap_file, inlined, frame, path_step, three_slots, two_sessions, first_of_two, second_of_two, two_intervals, kept_times};
 ghost use Rattle.code_event.specs.declared.event.CodeEvent.TheVariants as event;
 ghost use Rattle.code_event.specs.declared.tick.VmState.TheVariants as state;
 
@@ -18,11 +18,11 @@ pub fn moved_code_is_at_its_new_place()
 /// A slot of an inlined function stands for that function and for the one that it is inlined in, at
 /// the line of the call.
 pub fn an_inlined_slot_stands_for_two_functions()
-    ensures steps { steps_over inlined state.Js (208 ∷ 204 ∷ []) ≡ step (codes "f") 1 2 ∷ step (codes "f") 1 3 ∷ step (codes "g") 8 9 ∷ [] }
-    ensures leaf { leaf_path (steps_over inlined state.Js (208 ∷ 204 ∷ [])) ≡ path_step (codes "f") 1 0 ∷ path_step (codes "f") 1 0 ∷ path_step (codes "g") 8 0 ∷ [] }
-    ensures caller { caller_path 0 (steps_over inlined state.Js (208 ∷ 204 ∷ [])) ≡ path_step (codes "f") 1 0 ∷ path_step (codes "f") 1 2 ∷ path_step (codes "g") 8 3 ∷ [] }
-    ensures leaf_line { leaf_line (steps_over inlined state.Js (208 ∷ 204 ∷ [])) ≡ 9 }
-    ensures alone { caller_path 0 (steps_over inlined state.Js (208 ∷ [])) ≡ path_step (codes "f") 1 0 ∷ path_step (codes "g") 8 3 ∷ [] }
+    ensures frames { frames_over inlined state.Js (208 ∷ 204 ∷ []) ≡ frame (codes "f") 1 2 ∷ frame (codes "f") 1 3 ∷ frame (codes "g") 8 9 ∷ [] }
+    ensures leaf { leaf_path (frames_over inlined state.Js (208 ∷ 204 ∷ [])) ≡ path_step (codes "f") 1 0 ∷ path_step (codes "f") 1 0 ∷ path_step (codes "g") 8 0 ∷ [] }
+    ensures caller { caller_path 0 (frames_over inlined state.Js (208 ∷ 204 ∷ [])) ≡ path_step (codes "f") 1 0 ∷ path_step (codes "f") 1 2 ∷ path_step (codes "g") 8 3 ∷ [] }
+    ensures leaf_line { leaf_line (frames_over inlined state.Js (208 ∷ 204 ∷ [])) ≡ 9 }
+    ensures alone { caller_path 0 (frames_over inlined state.Js (208 ∷ [])) ≡ path_step (codes "f") 1 0 ∷ path_step (codes "g") 8 3 ∷ [] }
 {}
 
 /// Two sessions keep the ticks that their own intervals ask for.

@@ -1,29 +1,13 @@
-// Laws of the definitions, each the contract of a function that does nothing.
-ghost use Rattle.code_event.specs.Laws.{AddressesHaveOneOwner, KeptTicksAreTheirOwn, MeetingIsMutual, RangesAreDisjoint, RecordingsAreTheirOwn, StampedListsAreOne, StampingGivesStamps, StampingKeepsStamped};
+//! Laws of the definitions. Each function does nothing: its contract is the law.
 
-/// No two code objects ever share an address: none meets one that stands behind it, meeting goes both
-/// ways, and each address is in at most one.
-pub fn ranges_are_disjoint()
-    ensures disjoint { RangesAreDisjoint }
-    ensures both_ways { MeetingIsMutual }
-    ensures one_owner { AddressesHaveOneOwner }
-{}
+mod events;
+mod tree;
 
-/// Stamping any items makes a stamped list.
-pub fn stamping_gives_stamps()
-    ensures { StampingGivesStamps }
-{}
-
-/// The stamps of a stamped list are told by the rest of it: stamping it again changes nothing, and
-/// two stamped lists that agree but for their stamps are one.
-pub fn stamps_are_unique()
-    ensures kept { StampingKeepsStamped }
-    ensures one { StampedListsAreOne }
-{}
-
-/// No session's recording, and so none of the ticks that it keeps, depends on ticks that are for
-/// another session.
-pub fn other_ticks_do_not_matter()
-    ensures recording { RecordingsAreTheirOwn }
-    ensures kept { KeptTicksAreTheirOwn }
-{}
+pub use events::{
+    other_ticks_do_not_matter, ranges_are_disjoint, stamping_gives_stamps, stamps_are_unique,
+};
+pub use tree::{
+    each_hit_is_at_one_line, each_hit_is_of_one_node, each_node_but_the_root_is_one_child,
+    each_sample_is_a_node, every_node_but_the_root_has_a_parent, ids_number_the_nodes,
+    nodes_begin_the_paths, parents_come_first, the_root_comes_first,
+};

@@ -1,6 +1,8 @@
 // Paths: what a tick says of the functions on its stack.
+ghost use Rattle.std.specs.Prelude.{◌≡◌, IfOk};
+
 use crate::entry::Entry;
-use prof_base::Sequence;
+use prof_base::{Memory, Sequence};
 
 /// A step of a path, from the oldest function to the youngest.
 #[derive(Debug, Drop)]
@@ -18,4 +20,16 @@ pub struct PathPair {
     pub caller: Sequence<PathStep>,
     /// The line at which the youngest function was, or 0 for none.
     pub leaf_line: u32,
+}
+
+impl PathStep {
+    /// An equal step, which shares its texts.
+    pub fn copy(&self) -> Result<PathStep, Memory>
+        ensures { IfOk result (λ copy. copy ≡ self.now) }
+    {
+        Ok(PathStep {
+            entry: self.entry.copy()?,
+            call_line: self.call_line,
+        })
+    }
 }

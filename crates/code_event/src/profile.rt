@@ -1,199 +1,40 @@
-// The finished profile of a session.
-ghost use Rattle.std.specs.Prelude.{◌≡◌, ◌≤◌, ◌++◌, IfOk, map, take};
-ghost use Rattle.code_event.specs.Seen.{seen_by};
-ghost use Rattle.code_event.specs.Steps.{path, leaf_path, caller_path, leaf_line};
-ghost use Rattle.code_event.specs.Tree.{id_of, nodes};
-ghost use Rattle.code_event.specs.KeptTicks.{recording_by};
-ghost use Rattle.code_event.specs.Finished.{visit_of, visits_of, cut, samples, deltas, profile_of, finished_of};
-ghost use Rattle.code_event.specs.FileText.{file};
-ghost use Rattle.code_event.specs.Listed.{listed};
+// Finished profiles.
+use crate::entry::Entry;
+use prof_base::{Micros, Sequence, SessionId, Text};
 
-use crate::event::Mode;
-use crate::finished::Finished;
-use crate::kept::{Recording, kept, recorded};
-use crate::path::PathStep;
-use crate::profile_text::file_text;
-use crate::seen::{Seen, SeenTick, Step};
-use crate::tree::{Visit, fin_nodes, id_of, nodes};
-use prof_base::{MAX_INTERVAL, Memory, Micros, Sequence, SessionId};
-use std::alloc::Global;
-
-fn leaf_path(alloc: Global, steps: &[Step]) -> Result<Sequence<PathStep>, Memory>
-    ensures { IfOk result (λ found. found ≡ leaf_path steps.now) }
-{
-    let mut found = Sequence::new(alloc);
-    for step in steps {
-        found.push(PathStep {
-            entry: step.entry.copy()?,
-            call_line: 0,
-        })?;
-    }
-    Ok(found)
+/// How many hits a line has: `PositionTickInfo` in the Chrome DevTools Protocol 1.3.
+#[derive(Clone, Copy, Debug, PartialEq, Eq)]
+pub struct LineTicks {
+    pub line: u32,
+    pub ticks: u64,
 }
 
-fn caller_path(alloc: Global, steps: &[Step]) -> Result<Sequence<PathStep>, Memory>
-    ensures { IfOk result (λ found. found ≡ caller_path 0 steps.now) }
-{
-    let mut found = Sequence::new(alloc);
-    let mut line = 0;
-    for step in steps {
-        found.push(PathStep {
-            entry: step.entry.copy()?,
-            call_line: line,
-        })?;
-        line = step.line;
-    }
-    Ok(found)
+/// A node of a finished profile: `ProfileNode` there. Its id is its place among the nodes, from 1.
+#[derive(Debug, Drop)]
+pub struct FinNode {
+    pub entry: Entry,
+    /// Why the function is not optimised, if it was said.
+    pub reason: Option<Text>,
+    /// The hits with just its path.
+    pub hits: u64,
+    /// The ids of the nodes right below it, in order.
+    pub children: Sequence<u32>,
+    /// Its hits by the line at which the function was, by rising line.
+    pub lines: Sequence<LineTicks>,
 }
 
-fn path(alloc: Global, mode: Mode, steps: &[Step]) -> Result<Sequence<PathStep>, Memory>
-    ensures { IfOk result (λ found. found ≡ path mode steps.now) }
-{
-    match mode {
-        Mode::Leaf => leaf_path(alloc, steps),
-        Mode::Caller => caller_path(alloc, steps),
-    }
-}
-
-// The line of the last step, 0 for none.
-fn leaf_line(steps: &[Step]) -> u32
-    ensures { result ≡ leaf_line steps.now }
-{
-    match steps {
-        [] => 0,
-        [.., last] => last.line,
-    }
-}
-
-// The ticks in the tree of their session.
-fn visits(alloc: Global, mode: Mode, ticks: &[SeenTick]) -> Result<Sequence<Visit>, Memory>
-    ensures { IfOk result (λ found. found ≡ visits_of mode ticks.now) }
-{
-    let mut found = Sequence::new(alloc);
-    for tick in ticks {
-        found.push(Visit {
-            path: path(alloc, mode, tick.steps.as_slice())?,
-            line: leaf_line(tick.steps.as_slice()),
-            hit: tick.hit,
-        })?;
-    }
-    Ok(found)
-}
-
-// The ids of the ticks' nodes, in order.
-fn ids(
-    alloc: Global,
-    nodes: &[Sequence<PathStep>],
-    visits: &[Visit],
-) -> Result<Sequence<u32>, Memory>
-    ensures { IfOk result (λ found. found ≡ map (λ visit. id_of nodes.now visit.path) visits.now) }
-{
-    let mut found = Sequence::new(alloc);
-    for visit in visits {
-        found.push(id_of(nodes, visit.path.as_slice())?)?;
-    }
-    Ok(found)
-}
-
-// How many of so many samples are listed.
-fn listed(most: Option<u32>, count: usize) -> usize
-    ensures within { result ≤ count }
-    ensures value { result ≡ listed most count }
-{
-    match most {
-        None => count,
-        Some(most) => count.min(most as usize),
-    }
-}
-
-// The ids of the samples that are listed.
-fn samples(alloc: Global, most: Option<u32>, visits: &[Visit]) -> Result<Sequence<u32>, Memory>
-    ensures { IfOk result (λ found. found ≡ cut most (samples visits.now)) }
-{
-    let nodes = nodes(alloc, visits)?;
-    ids(
-        alloc,
-        nodes.as_slice(),
-        &visits[..listed(most, visits.len())],
-    )
-}
-
-// The microseconds from each tick to the one before it, and from the first to this time.
-fn deltas(alloc: Global, start: Micros, ticks: &[SeenTick]) -> Result<Sequence<u64>, Memory>
-    ensures { IfOk result (λ found. found ≡ deltas start (map (λ tick. tick.time) ticks.now)) }
-{
-    let mut found = Sequence::new(alloc);
-    let mut before = start.value();
-    for tick in ticks {
-        let time = tick.time.value();
-        found.push(time.saturating_sub(before))?;
-        before = time;
-    }
-    Ok(found)
-}
-
-// The profile of kept ticks.
-fn profile_of(
-    alloc: Global,
-    session: SessionId,
-    recording: &Recording,
-    ticks: &[SeenTick],
-) -> Result<Finished, Memory>
-    ensures { IfOk result (λ profile. profile ≡ profile_of session (recording_by recording.now) ticks.now) }
-{
-    let options = recording.begun.options;
-    let start = recording.begun.start;
-    let visits = visits(alloc, options.mode, ticks)?;
-    let nodes = fin_nodes(alloc, visits.as_slice(), recording.reasons.as_slice())?;
-    let samples = samples(alloc, options.max_samples, visits.as_slice())?;
-    let last = listed(options.max_samples, ticks.len());
-    let deltas = deltas(alloc, start, &ticks[..last])?;
-    Ok(Finished {
-        session,
-        port: options.port,
-        start,
-        end: recording.end,
-        nodes,
-        samples,
-        deltas,
-    })
-}
-
-/// The finished profile of a session in what is seen, by the base that the isolate rounds intervals
-/// to; none where the session was not ended. More nodes than ids is want of room.
-pub fn finished_of(
-    alloc: Global,
-    base: u32,
-    session: SessionId,
-    seen: &[Seen],
-) -> Result<Option<Finished>, Memory>
-    requires base_low { 1 ≤ base }
-    requires base_high { base ≤ MAX_INTERVAL }
-    ensures { IfOk result (λ found. found ≡ finished_of base session (map seen_by seen.now)) }
-{
-    match recorded(alloc, session, seen)? {
-        None => Ok(None),
-        Some(recording) => {
-            let ticks = kept(alloc, base, &recording.begun)?;
-            Ok(Some(profile_of(alloc, session, &recording, ticks.as_slice())?))
-        }
-    }
-}
-
-/// The file of a session in what is seen, by the base that the isolate rounds intervals to; none
-/// where the session was not ended.
-pub fn file(
-    alloc: Global,
-    base: u32,
-    session: SessionId,
-    seen: &[Seen],
-) -> Result<Option<Sequence<u8>>, Memory>
-    requires base_low { 1 ≤ base }
-    requires base_high { base ≤ MAX_INTERVAL }
-    ensures { IfOk result (λ text. text ≡ file base session (map seen_by seen.now)) }
-{
-    match finished_of(alloc, base, session, seen)? {
-        None => Ok(None),
-        Some(profile) => Ok(Some(file_text(alloc, &profile)?)),
-    }
+/// A finished profile.
+#[derive(Debug, Drop)]
+pub struct Finished {
+    pub session: SessionId,
+    /// The port at which the session was started.
+    pub port: u8,
+    pub start: Micros,
+    pub end: Micros,
+    /// The nodes, each before those below it.
+    pub nodes: Sequence<FinNode>,
+    /// The ids of the samples' nodes.
+    pub samples: Sequence<u32>,
+    /// The microseconds from each sample to the one before it, and from the first to the start.
+    pub deltas: Sequence<u64>,
 }

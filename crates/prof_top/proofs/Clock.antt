@@ -10,7 +10,7 @@ use Rattle.code_event.proofs.EachElement.{all_mapped, all_pushed}
 use Rattle.code_event.specs.declared.event.Options.{Options}
 use Rattle.isolate.proofs.Going.{going_before, may_come}
 use Rattle.isolate.specs.Fits.{IsGoing, MayEndFor, MayComeAbout, Fits}
-use Rattle.record_text.specs.Schedule.{Course, course_after, course_on, running_after, is_end, MayStandBehind, IsInOrder, IsEndWithin, MayFollow, EachMayFollow, IsAtLastStep, has_end, IsLegal}
+use Rattle.record_text.specs.Schedule.{Course, course_after, course_on, running_after, is_end, MayStandBehind, IsInOrder, IsEndWithin, MayFollow, EachMayFollow, IsAtLastStep, has_end, IsLegalSchedule}
 use Rattle.record_text.specs.declared.schedule.EndCause.{EndCause}
 use Rattle.record_text.specs.declared.schedule.EndCause.TheVariants as cause
 use Rattle.record_text.specs.declared.schedule.What.{What}
@@ -151,7 +151,7 @@ steps_within funcs budget step cause.Memory ends = absurd ends
 -- where there is room for all, the schedule keeps the rules
 clock_is_legal : (funcs : List Func) (schedule : Schedule) (options : Options) (step : ℕ) (cause : EndCause) → 1 ≤ schedule.budget
     → EndsWithin funcs schedule.budget step cause → suc (length (entries_before options step)) < schedule.limit
-    → schedule.entries ≡ entries_before options step ++ entry_at step (End cause) ∷ [] → IsLegal schedule
+    → schedule.entries ≡ entries_before options step ++ entry_at step (End cause) ∷ [] → IsLegalSchedule schedule
 clock_is_legal funcs schedule options step cause some ends places made =
     let before = entries_before options step in
     let end = entry_at step (End cause) in
@@ -292,7 +292,7 @@ last_within options step moment within some =
     last_earlier moment (entry_at 0 (Start options)) (samples_before options.interval step) (entries_earlier options step moment within some)
 
 full_is_legal : (funcs : List Func) (schedule : Schedule) (options : Options) (step : ℕ) (own : EndCause) → 1 ≤ schedule.budget → 2 ≤ schedule.limit
-    → EndsWithin funcs schedule.budget step own → IsFull schedule options step → IsLegal schedule
+    → EndsWithin funcs schedule.budget step own → IsFull schedule options step → IsLegalSchedule schedule
 full_is_legal funcs schedule options step own some places ends full =
     let at = full.cut.at in
     let before = entries_before options at in
@@ -309,7 +309,7 @@ clocks_are_legal funcs every schedule some places clock =
     let before = entries_before clock.options clock.step in
     let end = entry_at clock.step (End clock.cause) in
     let last = schedule.limit - 1 in
-    cond_both (nat_le last (length before)) (take last before ++ entry_at (last_step (take last before)) (End cause.Full) ∷ []) (before ++ end ∷ []) (λ made. schedule.entries ≡ made → IsLegal schedule)
+    cond_both (nat_le last (length before)) (take last before ++ entry_at (last_step (take last before)) (End cause.Full) ∷ []) (before ++ end ∷ []) (λ made. schedule.entries ≡ made → IsLegalSchedule schedule)
     (λ full made. full_is_legal funcs schedule clock.options clock.step clock.cause some places clock.ends (full_of schedule clock.options clock.step places (leb-true last (length before) full) made))
     (λ room made. clock_is_legal funcs schedule clock.options clock.step clock.cause some clock.ends (roomy schedule.limit (length before) room) made)
     clock.made

@@ -7,7 +7,7 @@ use Rattle.guest_text.specs.declared.instr.Func.{Func}
 use Rattle.isolate.specs.PlainFile.{SessionFile, plain_files}
 use Rattle.record_text.specs.declared.schedule.Schedule.{Schedule}
 use Rattle.prof_base.specs.Causes.{Rose}
-use Rattle.prof_outer.specs.Told.{AppendsWhole, AppendsPart}
+use Rattle.prof_outer.specs.Appends.{AppendsWhole, AppendsPart}
 use Rattle.prof_outer.specs.declared.sink.SinkFault.{SinkFault}
 use Rattle.prof_outer.specs.declared.sink.SinkFault.TheVariants as sink
 use Rattle.out_stream.specs.Parts.{Parts, grown, closed, GrowsByPrefix}
@@ -16,7 +16,7 @@ use Rattle.out_stream.specs.declared.stream.Undelivered.TheVariants as cut
 use Rattle.prof_top.specs.Ending.{run_ending, status_of}
 use Rattle.prof_top.specs.Written.{IsWritten}
 use Rattle.prof_top.specs.declared.ending.Ending.{Ending}
-use Rattle.prof_top.specs.HandedOut.{Told, AddsParts, IsHandedOut}
+use Rattle.prof_top.specs.HandedOut.{Outlets, AddsParts, IsHandedOut}
 use Rattle.prof_top.specs.PrintedText.{one_file, delivered_of, file_line, printed_text}
 use Rattle.prof_top.specs.Log.{IsWholeRun}
 use Rattle.prof_top.specs.RunSchedule.{IsDone}
@@ -117,20 +117,20 @@ written_done delivered (Ok u) old new text ok done = ok
 written_done delivered (Err fault) old new text ok done = absurd (not_done_unwritten delivered fault done)
 
 -- what the stream answered, and what that left
-pub record Delivers (delivered : Result (Unit {0}) Undelivered) (file : List ℕ) (before now : Told) : Type 0 where
+pub record Delivers (delivered : Result (Unit {0}) Undelivered) (file : List ℕ) (before now : Outlets) : Type 0 where
   pub ok : OnOk delivered (now.parts ≡ closed (grown before.parts file))
   pub err : OnErr delivered (GrowsByPrefix before.parts now.parts file)
   pub aborted : IsErrOf delivered cut.Aborted → Rose before.aborts now.aborts
   pub failed : IsErrOf delivered cut.Failed → Rose before.stream_faults now.stream_faults
 
 -- what `out` answered, and what that left
-pub record Writes (written : Result (Unit {0}) SinkFault) (text : List ℕ) (before now : Told) : Type 0 where
+pub record Writes (written : Result (Unit {0}) SinkFault) (text : List ℕ) (before now : Outlets) : Type 0 where
   pub ok : OnOk written (AppendsWhole before.written now.written text)
   pub part : IsErrOf written sink.Failed → AppendsPart before.written now.written text
   pub memory : IsErrOf written sink.Memory → now.written ≡ before.written
   pub failed : IsErrOf written sink.Failed → Rose before.out_faults now.out_faults
 
-handed_so : (lines file : List ℕ) (delivered : Result (Unit {0}) Undelivered) (written : Result (Unit {0}) SinkFault) (before now : Told)
+handed_so : (lines file : List ℕ) (delivered : Result (Unit {0}) Undelivered) (written : Result (Unit {0}) SinkFault) (before now : Outlets)
     → Delivers delivered file before now → Writes written (lines ++ flat_map file_line (delivered_of delivered file)) before now
     → IsHandedOut (one_file file) (λ files. lines ++ flat_map file_line files) (status_of (run_ending delivered written)) before now
 handed_so lines file delivered written before now delivers writes =
@@ -151,7 +151,7 @@ handed_so lines file delivered written before now delivers writes =
     }
 
 -- what has come out of a run that ends so
-pub handed_out : (lines file : List ℕ) (ending : Ending) (delivered : Result (Unit {0}) Undelivered) (written : Result (Unit {0}) SinkFault) (before now : Told)
+pub handed_out : (lines file : List ℕ) (ending : Ending) (delivered : Result (Unit {0}) Undelivered) (written : Result (Unit {0}) SinkFault) (before now : Outlets)
     → ending ≡ run_ending delivered written
     → Delivers delivered file before now → Writes written (lines ++ flat_map file_line (delivered_of delivered file)) before now
     → IsHandedOut (one_file file) (λ files. lines ++ flat_map file_line files) (status_of ending) before now
@@ -159,7 +159,7 @@ handed_out lines file ending delivered written before now ends delivers writes =
     subst (λ e. IsHandedOut (one_file file) (λ files. lines ++ flat_map file_line files) (status_of e) before now) (sym ends) (handed_so lines file delivered written before now delivers writes)
 
 -- the schedules of a run, and what has come out of it
-pub run_handed : (funcs : List Func) (every : ℕ) (schedules : List Schedule) (lines file lines' file' : List ℕ) (status : ℕ) (before now : Told) → IsWholeRun funcs every schedules lines file
+pub run_handed : (funcs : List Func) (every : ℕ) (schedules : List Schedule) (lines file lines' file' : List ℕ) (status : ℕ) (before now : Outlets) → IsWholeRun funcs every schedules lines file
     → lines' ≡ lines → file' ≡ file → IsHandedOut (one_file file') (λ files. lines' ++ flat_map file_line files) status before now
     → AllByRecursion (λ schedule. IsDone funcs every schedule status before now) schedules
 run_handed funcs every schedules lines file lines' file' status before now run same_lines same_file handed =
@@ -173,7 +173,7 @@ run_handed funcs every schedules lines file lines' file' status before now run s
     subst (AllByRecursion (λ schedule. IsDone funcs every schedule status before now)) (sym run.one) (record { run = run.run; handed = one }, tt)
 
 -- want of memory for the line of error leaves what has come out
-pub handed_at_last : (files : List SessionFile) (text : List SessionFile → List ℕ) (status last : ℕ) (before now : Told) → (last ≡ status) ⊎ (last ≡ 6)
+pub handed_at_last : (files : List SessionFile) (text : List SessionFile → List ℕ) (status last : ℕ) (before now : Outlets) → (last ≡ status) ⊎ (last ≡ 6)
     → IsHandedOut files text status before now → IsHandedOut files text last before now
 handed_at_last files text status last before now (inl same) handed = subst (λ s. IsHandedOut files text s before now) (sym same) handed
 handed_at_last files text status last before now (inr memory) handed = record {

@@ -8,12 +8,12 @@ use Rattle.std.specs.Prelude.{Option, Bool, true, false, Some, None, is_some, ma
 use Rattle.guest_text.specs.declared.instr.Func.{Func}
 use Rattle.guest_text.specs.InlinedSize.{body_of}
 use Rattle.guest_text.specs.Straight.{IsSetOrHalt, IsStraightBody}
-use Rattle.code_event.specs.CodeRanges.{no_reasons}
+use Rattle.code_event.specs.DeoptReasons.{no_reasons}
 use Rattle.code_event.specs.ItemFile.{session}
-use Rattle.code_event.specs.KeptTicks.{recording}
+use Rattle.code_event.specs.Recording.{recording}
 use Rattle.code_event.specs.Seen.{Seen, seen_by, started, finished}
 use Rattle.code_event.specs.declared.event.Options.{Options}
-use Rattle.code_event.specs.declared.seen.Seen.{Seen as Told}
+use Rattle.code_event.specs.declared.seen.Seen.{Seen as ListedSeen}
 use Rattle.guest_machine.specs.PlainMachine.{plain, main_of}
 use Rattle.isolate.specs.Fits.{IsGoing}
 use Rattle.isolate.specs.PlainFile.{tick_at, seen_run, seen_behind, ends_behind}
@@ -31,12 +31,12 @@ use Rattle.prof_top.specs.StepClock.{entry_at, is_asked, entries_before, last_st
 use Rattle.prof_top.specs.Straight.{IsAfter}
 
 -- the log of the start
-pub started_log : (funcs : List Func) (every : ℕ) (options : Options) (entry : ScheduleEntry) (entries : List ScheduleEntry) (mark tick : Told) (seen more : List Told)
+pub started_log : (funcs : List Func) (every : ℕ) (options : Options) (entry : ScheduleEntry) (entries : List ScheduleEntry) (mark tick : ListedSeen) (seen more : List ListedSeen)
     → IsWholeRecording every options → entry ≡ entry_at 0 (Start options) → entries ≡ entry ∷ []
     → seen_by mark ≡ started (session 1) options 0 → seen ≡ mark ∷ [] → seen_by tick ≡ tick_at funcs 0 0 0 false (Some (session 1)) → more ≡ seen ++ tick ∷ []
     → IsLog funcs every 0 entries (map seen_by more)
 started_log funcs every options entry entries mark tick seen more recording starts entered marks had ticks got =
-    let both : more ≡ mark ∷ tick ∷ [] = got ∙ ap (λ (front : List Told). front ++ tick ∷ []) had in
+    let both : more ≡ mark ∷ tick ∷ [] = got ∙ ap (λ (front : List ListedSeen). front ++ tick ∷ []) had in
     record {
       options = options;
       recording = recording;
@@ -45,7 +45,7 @@ started_log funcs every options entry entries mark tick seen more recording star
     }
 
 -- a sample was taken
-pub sampled_log : (funcs : List Func) (every step : ℕ) (entry : ScheduleEntry) (entries entries' : List ScheduleEntry) (tick : Told) (seen seen' : List Told)
+pub sampled_log : (funcs : List Func) (every step : ℕ) (entry : ScheduleEntry) (entries entries' : List ScheduleEntry) (tick : ListedSeen) (seen seen' : List ListedSeen)
     → is_asked every step ≡ true → entry ≡ entry_at step Sampled → entries' ≡ entries ++ entry ∷ []
     → seen_by tick ≡ tick_at funcs step step every true None → seen' ≡ seen ++ tick ∷ []
     → IsLog funcs every step entries (map seen_by seen) → IsLog funcs every (suc step) entries' (map seen_by seen')
@@ -83,7 +83,7 @@ passed_log funcs every step entries seen not_asked log =
     }
 
 -- the machine has halted
-pub ended_log : (funcs : List Func) (every step : ℕ) (entry : ScheduleEntry) (entries entries' : List ScheduleEntry) (mark : Told) (seen seen' : List Told)
+pub ended_log : (funcs : List Func) (every step : ℕ) (entry : ScheduleEntry) (entries entries' : List ScheduleEntry) (mark : ListedSeen) (seen seen' : List ListedSeen)
     → step ≤ 4096 → entry ≡ entry_at step (End cause.Halt) → entries' ≡ entries ++ entry ∷ []
     → seen_by mark ≡ finished step true no_reasons → seen' ≡ seen ++ mark ∷ []
     → IsLog funcs every step entries (map seen_by seen) → HaltsAt funcs step
@@ -93,7 +93,7 @@ ended_log funcs every step entry entries entries' mark seen seen' few is entered
     let end = entry_at step (End cause.Halt) in
     let schedule : Schedule = record { base = every; ring = 256; budget = 1000000; limit = 1048576; entries = entries' } in
     let all : entries' ≡ entries_before options step ++ end ∷ [] = entered ∙ λ i. log.entries_are i ++ is i ∷ [] in
-    let told : map seen_by seen' ≡ seen_before funcs options step ++ finished step true no_reasons ∷ [] =
+    let sees : map seen_by seen' ≡ seen_before funcs options step ++ finished step true no_reasons ∷ [] =
     ap (map seen_by) got ∙ (map-append seen_by seen (mark ∷ []) ∙ λ i. log.seen_are i ++ marks i ∷ []) in
     let none : Course = record { started = 0; running = [] } in
     let run : seen_run funcs schedule ≡ seen_before funcs options step ++ finished step true no_reasons ∷ [] =
@@ -102,8 +102,8 @@ ended_log funcs every step entry entries entries' mark seen seen' few is entered
     let last : last_step entries' ≡ step = ap last_step all ∙ last_pushed (entries_before options step) end in
     record {
       run = run_schedule funcs every step halts.index halts.registers options entries' few halts.going halts.state_is log.recording all;
-      seen_is = told ∙ sym run;
-      has_file = ap (λ list. is_some (recording 1 list)) told ∙ has_file funcs options step step no_reasons;
+      seen_is = sees ∙ sym run;
+      has_file = ap (λ list. is_some (recording 1 list)) sees ∙ has_file funcs options step step no_reasons;
       ends = ap (ends_behind none) all ∙ one_ends options step end refl;
       silent = ap (λ n. (plain funcs n).printed) last ∙ ap (λ state. state.printed) halts.state_is;
     }

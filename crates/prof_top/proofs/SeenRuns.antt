@@ -8,16 +8,17 @@ use Rattle.std.specs.Prelude.{Bool, true, false, Some, None, is_some, map, ◌==
 use Rattle.std.specs.List.{AllByRecursion}
 use Rattle.guest_text.specs.declared.instr.Func.{Func}
 use Rattle.code_event.proofs.EachElement.{all_pushed}
-use Rattle.code_event.specs.CodeRanges.{Reasons, no_reasons, same_entry}
+use Rattle.code_event.specs.CodeMap.{same_entry}
+use Rattle.code_event.specs.DeoptReasons.{DeoptReasons, no_reasons}
 use Rattle.code_event.specs.ItemFile.{session}
-use Rattle.code_event.specs.KeptTicks.{recording, recording_behind, with_tick}
+use Rattle.code_event.specs.Recording.{recording, recording_behind, with_tick}
 use Rattle.code_event.specs.Seen.{Seen, started, stopped, finished, ticked}
 use Rattle.code_event.specs.declared.entry.Entry.{Entry}
 use Rattle.code_event.specs.declared.event.Options.{Options}
-use Rattle.code_event.specs.declared.kept.Begun.{Begun}
-use Rattle.code_event.specs.declared.seen.SeenTick.{SeenTick}
+use Rattle.code_event.specs.declared.recording.Begun.{Begun}
+use Rattle.code_event.specs.declared.seen.ResolvedTick.{ResolvedTick}
 use Rattle.guest_machine.specs.PlainMachine.{plain, deopts, plain_code}
-use Rattle.isolate.specs.PlainFile.{entry_of, reason_in, reasons_of, plain_steps, tick_at, given_up, given_up_for, seen_of, seen_behind, ends_behind}
+use Rattle.isolate.specs.PlainFile.{func_entry, reason_in, reasons_of, plain_frames, tick_at, given_up, given_up_for, seen_of, seen_behind, ends_behind}
 use Rattle.prof_base.specs.Interval.{rounded_of}
 use Rattle.record_text.specs.Schedule.{Course, Running, course_after, course_on}
 use Rattle.record_text.specs.Source.{gcd, gcd_within, source_for}
@@ -98,7 +99,7 @@ source_alone every number port some = ap (gcd 0) (alone_rounded every some) ∙ 
 no_reason : (funcs : List Func) (entry : Entry) → reason_in funcs (map plain_code funcs) entry ≡ None
 no_reason [] entry = refl
 no_reason (func ∷ funcs) entry =
-    cond_both (same_entry (entry_of func) entry) None (reason_in funcs (map plain_code funcs) entry) (λ found. found ≡ None) (λ is. refl) (λ not. no_reason funcs entry)
+    cond_both (same_entry (func_entry func) entry) None (reason_in funcs (map plain_code funcs) entry) (λ found. found ≡ None) (λ is. refl) (λ not. no_reason funcs entry)
 
 -- no function has a reason
 pub no_reasons_given : (funcs : List Func) (index : ℕ) (registers : List ℕ) (halted : Bool) → reasons_of funcs (straight_state funcs index registers halted) ≡ no_reasons
@@ -118,7 +119,7 @@ ticks_are_ticks funcs every (suc step) =
     (λ not. subst (AllByRecursion IsTick) (sym (append-nil before)) all)
 
 -- a session that has begun is finished behind all ticks
-finished_behind : (number : ℕ) (begun : Begun) (ticks : List Seen) (time : ℕ) (reasons : Reasons) → AllByRecursion IsTick ticks
+finished_behind : (number : ℕ) (begun : Begun) (ticks : List Seen) (time : ℕ) (reasons : DeoptReasons) → AllByRecursion IsTick ticks
     → is_some (recording_behind number (Some begun) (ticks ++ finished time true reasons ∷ [])) ≡ true
 finished_behind number begun [] time reasons all = refl
 finished_behind number begun (ticked tick ∷ ticks) time reasons all = finished_behind number (with_tick number tick begun) ticks time reasons all.1
@@ -127,10 +128,10 @@ finished_behind number begun (stopped s at given ∷ ticks) time reasons all = a
 finished_behind number begun (finished at files given ∷ ticks) time reasons all = absurd all.0
 
 -- the one session of a run has a file
-pub has_file : (funcs : List Func) (options : Options) (step time : ℕ) (reasons : Reasons) → is_some (recording 1 (seen_before funcs options step ++ finished time true reasons ∷ [])) ≡ true
+pub has_file : (funcs : List Func) (options : Options) (step time : ℕ) (reasons : DeoptReasons) → is_some (recording 1 (seen_before funcs options step ++ finished time true reasons ∷ [])) ≡ true
 has_file funcs options step time reasons =
     let begun : Begun = record { options = options; start = 0; ticks = [] } in
-    let first : SeenTick = record { time = 0; interval = 0; hit = false; only = Some (session 1); steps = plain_steps funcs (plain funcs 0) } in
+    let first : ResolvedTick = record { time = 0; interval = 0; hit = false; only = Some (session 1); steps = plain_frames funcs (plain funcs 0) } in
     finished_behind 1 (with_tick 1 first begun) (ticks_before funcs options.interval step) time reasons (ticks_are_ticks funcs options.interval step)
 
 -- the sessions after the start of a run

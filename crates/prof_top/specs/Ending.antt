@@ -66,10 +66,10 @@ run_ending (Ok u) (Err sink.Failed) = CannotWrite
 run_ending (Ok u) (Ok v) = Done
 
 -- how a call ends, by how its line of error was written: only want of memory changes that
-abbrev pub told : Ending → Result (Unit {0}) SinkFault → Ending
-told ending (Err sink.Memory) = Memory
-told ending (Err sink.Failed) = ending
-told ending (Ok u) = ending
+abbrev pub ending_after : Ending → Result (Unit {0}) SinkFault → Ending
+ending_after ending (Err sink.Memory) = Memory
+ending_after ending (Err sink.Failed) = ending
+ending_after ending (Ok u) = ending
 
 -- a run ends so
 abbrev pub IsRunEnding : Ending → Type 0

@@ -4,13 +4,13 @@ use Rattle.std.specs.Option.{option_map_or}
 use Rattle.std.specs.List.{slice_get}
 use Rattle.prof_base.specs.Causes.{Rose}
 use Rattle.prof_base.specs.Prefix.{IsPrefix}
-use Rattle.prof_outer.specs.Told.{AppendsWhole}
+use Rattle.prof_outer.specs.Appends.{AppendsWhole}
 use Rattle.out_stream.specs.Parts.{Parts}
 use Rattle.isolate.specs.PlainFile.{SessionFile}
 use Rattle.prof_top.specs.Written.{IsWritten}
 
 -- what the stream and `out` tell at one moment
-pub record Told : Type 0 where
+pub record Outlets : Type 0 where
   pub parts : Option Parts
   pub aborts : ℕ
   pub stream_faults : ℕ
@@ -27,7 +27,7 @@ AddsParts texts number before now =
     (part : List ℕ) × IsPrefix part (text_at texts number) × (now ≡ option_map (λ parts. (parts.0 ++ take number texts, part)) before)
 
 -- Of these files the first so many were delivered, and this text was printed of them. All were delivered where the stream neither aborted nor failed and there was memory, where the call ended well, and where it ended by a fault of `out` alone.
-pub record IsHandedOut (files : List SessionFile) (text : List SessionFile → List ℕ) (status : ℕ) (before now : Told) : Type 0 where
+pub record IsHandedOut (files : List SessionFile) (text : List SessionFile → List ℕ) (status : ℕ) (before now : Outlets) : Type 0 where
   pub delivered : ℕ
   pub parts : IfSome before.parts (λ parts. parts.1 ≡ []) → AddsParts (map (λ file. file.text) files) delivered before.parts now.parts
   pub whole : ¬ Rose before.aborts now.aborts → ¬ Rose before.stream_faults now.stream_faults → status ≢ 6 → delivered ≡ length files

@@ -5,7 +5,7 @@ use Rattle.guest_text.specs.InlinedSize.{body_of}
 use Rattle.guest_text.specs.Straight.{IsSetOrHalt}
 use Rattle.guest_text.specs.declared.instr.Func.{Func}
 use Rattle.code_event.specs.ItemFile.{session}
-use Rattle.code_event.specs.KeptTicks.{recording}
+use Rattle.code_event.specs.Recording.{recording}
 use Rattle.code_event.specs.Seen.{Seen, started}
 use Rattle.code_event.specs.declared.event.Options.{Options}
 use Rattle.guest_machine.specs.PlainMachine.{plain, main_of}

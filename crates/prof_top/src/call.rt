@@ -3,7 +3,7 @@ ghost use Rattle.std.specs.Prelude.{◌≡◌, ◌⊎◌, ◌≤◌, [], length,
 ghost use Rattle.std.specs.List.{AllByRecursion};
 ghost use Rattle.isolate.specs.Fits.{Fits};
 ghost use Rattle.prof_base.specs.Causes.{Rose};
-ghost use Rattle.record_text.specs.Schedule.{IsLegal};
+ghost use Rattle.record_text.specs.Schedule.{IsLegalSchedule};
 ghost use Rattle.prof_top.specs.Command.{IsCommand, NamesProgram};
 ghost use Rattle.prof_top.specs.Held.{LacksFile, HoldsUnreadable, MayReadProgram};
 ghost use Rattle.prof_top.specs.Ending.{status_of};
@@ -14,7 +14,7 @@ ghost use Rattle.prof_top.specs.Status.{IsStatus};
 ghost use Rattle.prof_top.specs.StepClock.{IsStepClock};
 ghost use Rattle.prof_top.specs.Causes.{IsEndedAs};
 
-use crate::ending::{Ending, tell};
+use crate::ending::{Ending, report};
 use crate::load::load;
 use crate::run::{Ran, run};
 use out_stream::OutputStream;
@@ -151,7 +151,7 @@ pub(crate) fn once<D: Depot, S: OutputStream, O: Sink, E: Sink>(
     ensures no_text { result.schedules ≡ [] → O.written out.new ≡ O.written out.old }
 {
     let ran = load_and_run(alloc, words, depot, stream, out);
-    let ending = tell(alloc, ran.ending, err);
+    let ending = report(alloc, ran.ending, err);
     Ran {
         ending,
         schedules: ran.schedules,
@@ -195,7 +195,7 @@ pub fn cpuprof_once<D: Depot, O: Sink, E: Sink>(
     ensures ran { IsAfterRun result.status → length result.schedules ≡ 1 }
     ensures stopped { IsBeforeRun result.status → result.schedules ≡ [] }
     ensures one { length result.schedules ≤ 1 }
-    ensures legal { AllByRecursion IsLegal result.schedules }
+    ensures legal { AllByRecursion IsLegalSchedule result.schedules }
     ensures fits { AllByRecursion (λ schedule. OfRun (map string_bytes words.now) (D.held depot.old) (λ funcs every. Fits funcs schedule)) result.schedules }
     ensures head { AllByRecursion (λ schedule. OfRun (map string_bytes words.now) (D.held depot.old) (λ funcs every. IsHead every schedule)) result.schedules }
     ensures clock { (result.status ≡ 6) ⊎ AllByRecursion (λ schedule. OfRun (map string_bytes words.now) (D.held depot.old)

@@ -1,8 +1,8 @@
 // How a call ends: its status and its line of error.
 ghost use Rattle.std.specs.Prelude.{◌≡◌, ◌⊎◌, ◌≤◌, IfOk, OnOk, IsErrOf, string_bytes};
 ghost use Rattle.prof_base.specs.Causes.{Rose};
-ghost use Rattle.prof_outer.specs.Told.{AppendsWhole, AppendsPart};
-ghost use Rattle.prof_top.specs.Ending.{status_of, cause_word, refused_line, line_of, told};
+ghost use Rattle.prof_outer.specs.Appends.{AppendsWhole, AppendsPart};
+ghost use Rattle.prof_top.specs.Ending.{status_of, cause_word, refused_line, line_of, ending_after};
 ghost use Rattle.prof_top.specs.Written.{IsWritten};
 
 use guest_text::ProgramCause;
@@ -129,8 +129,8 @@ fn say<E: Sink>(alloc: Global, ending: &Ending, err: &mut E) -> Result<(), SinkF
 }
 
 // How the call ends, by how its line of error was written.
-fn told(ending: Ending, said: Result<(), SinkFault>) -> Ending
-    ensures { result ≡ told ending said }
+fn ending_after(ending: Ending, said: Result<(), SinkFault>) -> Ending
+    ensures { result ≡ ending_after ending said }
 {
     match said {
         Err(SinkFault::Memory) => Ending::Memory,
@@ -138,13 +138,13 @@ fn told(ending: Ending, said: Result<(), SinkFault>) -> Ending
     }
 }
 
-/// Tells how the call ends by its line on `err`, where there is one. A fault of `err` changes
+/// Reports how the call ends by its line on `err`, where there is one. A fault of `err` changes
 /// nothing; its want of memory is the call's.
-pub(crate) fn tell<E: Sink>(alloc: Global, ending: Ending, err: &mut E) -> Ending
-    ensures told { (result ≡ ending) ⊎ (result ≡ Ending.Memory) }
+pub(crate) fn report<E: Sink>(alloc: Global, ending: Ending, err: &mut E) -> Ending
+    ensures ending { (result ≡ ending) ⊎ (result ≡ Ending.Memory) }
     ensures written { IsWritten (line_of result) (status_of result) (E.written err.old) (E.written err.new) (E.faults err.old) (E.faults err.new) }
     ensures faults { E.faults err.old ≤ E.faults err.new }
 {
     let said = say(alloc, &ending, err);
-    told(ending, said)
+    ending_after(ending, said)
 }

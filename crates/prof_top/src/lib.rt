@@ -3,7 +3,7 @@
 
 mod call;
 mod ending;
-mod laws;
+pub mod laws;
 mod load;
 mod machine;
 mod printing;
@@ -12,7 +12,6 @@ mod run;
 mod words;
 
 pub use call::{Outcome, cpuprof_once};
-pub use laws::{the_step_clock_has_one_schedule, the_step_clock_keeps_the_rules};
 
 #[cfg(test)]
 mod tests;

@@ -7,7 +7,7 @@ ghost use Rattle.prof_top.specs.Ending.{ending_of};
 ghost use Rattle.prof_top.specs.Causes.{IsUnreadAs, IsStoppedAs, IsRunnable};
 
 use crate::ending::Ending;
-use crate::words::{Run, WordsRefused, command};
+use crate::words::{RunCommand, WordsRefused, command};
 use guest_text::{Program, ProgramCause, ProgramRefused, read_program};
 use prof_base::Text;
 use prof_outer::{Depot, GetFault};
@@ -87,7 +87,7 @@ pub(crate) fn load<D: Depot>(
         Err(WordsRefused::Usage) => return Err(Ending::Usage),
         Err(WordsRefused::Memory) => return Err(Ending::Memory),
     };
-    let Run {
+    let RunCommand {
         program: name,
         every,
     } = run;

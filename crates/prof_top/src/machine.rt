@@ -3,10 +3,10 @@ ghost use Rattle.std.specs.Prelude.{◌≡◌, ◌<◌, ◌≤◌, ℕ, List, le
 ghost use Rattle.guest_text.specs.Straight.{IsStraight, IsStraightBody};
 ghost use Rattle.guest_text.specs.declared.instr.Func.{Func};
 ghost use Rattle.guest_machine.specs.PlainMachine.{plain};
-ghost use Rattle.isolate.specs.PlainFile.{entry_of, plain_steps};
+ghost use Rattle.isolate.specs.PlainFile.{func_entry, plain_frames};
 ghost use Rattle.prof_top.specs.Straight.{IsAfter};
 
-use code_event::{Entry, Step};
+use code_event::{Entry, ResolvedFrame};
 use guest_text::{Func, Op, Program};
 use prof_base::{Memory, Sequence};
 use std::alloc::Global;
@@ -22,8 +22,8 @@ pub(crate) struct Machine<'a> {
 }
 
 // What a profile names a function by.
-fn entry_of(func: &Func) -> Result<Entry, Memory>
-    ensures { IfOk result (λ entry. entry ≡ entry_of func.now) }
+fn func_entry(func: &Func) -> Result<Entry, Memory>
+    ensures { IfOk result (λ entry. entry ≡ func_entry func.now) }
 {
     Ok(Entry {
         name: func.name.copy()?,
@@ -61,17 +61,17 @@ impl<'a> Machine<'a> {
     }
 
     /// The functions on the stack, oldest first, each with the line at which it is.
-    pub(crate) fn steps(&self, alloc: Global) -> Result<Sequence<Step>, Memory>
+    pub(crate) fn frames(&self, alloc: Global) -> Result<Sequence<ResolvedFrame>, Memory>
         ensures { IfOk result (λ found. (funcs : List Func) (steps : ℕ)
             → IsAfter funcs self.now.main.now self.now.index self.now.registers self.now.has_halted steps
-            → found ≡ plain_steps funcs (plain funcs steps)) }
+            → found ≡ plain_frames funcs (plain funcs steps)) }
     {
-        let mut steps = Sequence::new(alloc);
-        steps.push(Step {
-            entry: entry_of(self.main)?,
+        let mut frames = Sequence::new(alloc);
+        frames.push(ResolvedFrame {
+            entry: func_entry(self.main)?,
             line: self.main.body.as_slice()[self.index].line,
         })?;
-        Ok(steps)
+        Ok(frames)
     }
 
     /// Does the next instruction.

@@ -3,7 +3,7 @@
 ghost use Rattle.std.specs.Prelude.{◌≡◌, ◌≤◌, ◌<◌, ◌++◌, ◌∷◌, [], ◌^◌, ℕ, List, Bool, true, false, Some, None, map, suc, OnOk, IfOk, if◌then◌else◌};
 ghost use Rattle.guest_text.specs.Straight.{IsStraight};
 ghost use Rattle.guest_text.specs.declared.instr.Func.{Func};
-ghost use Rattle.code_event.specs.CodeRanges.{no_reasons};
+ghost use Rattle.code_event.specs.DeoptReasons.{no_reasons};
 ghost use Rattle.code_event.specs.Seen.{seen_by, started, finished};
 ghost use Rattle.isolate.specs.PlainFile.{tick_at, seen_run};
 ghost use Rattle.record_text.specs.declared.schedule.What.TheVariants.{Sampled};
@@ -12,7 +12,7 @@ ghost use Rattle.prof_top.specs.StepClock.{entry_at, is_asked, IsWholeRecording}
 ghost use Rattle.prof_top.specs.Straight.{IsAfter};
 
 use crate::machine::Machine;
-use code_event::{Mode, Options, Seen, SeenTick};
+use code_event::{Mode, Options, Seen, ResolvedTick};
 use guest_text::Program;
 use prof_base::{MAX_INTERVAL, Memory, Micros, Sequence, SessionId};
 use record_text::{EndCause, Schedule, ScheduleEntry, What};
@@ -32,7 +32,7 @@ pub(crate) const SESSION: SessionId = SessionId(1);
 
 /// A run of a program, with one session from its first step to its end.
 #[derive(Debug, Drop)]
-pub(crate) struct Recording {
+pub(crate) struct RecordedRun {
     pub(crate) schedule: Schedule,
     /// What the session sees.
     pub(crate) seen: Sequence<Seen>,
@@ -83,12 +83,12 @@ fn tick_at(
         → IsAfter funcs machine.now.main.now machine.now.index machine.now.registers machine.now.has_halted step
         → seen_by seen ≡ tick_at funcs step step interval hit only) }
 {
-    Ok(Seen::Ticked(SeenTick {
+    Ok(Seen::Ticked(ResolvedTick {
         time: Micros::new(step),
         interval,
         hit,
         only,
-        steps: machine.steps(alloc)?,
+        frames: machine.frames(alloc)?,
     }))
 }
 
@@ -144,7 +144,7 @@ fn take_sample(
 }
 
 // The recording of a run that has ended after so many steps.
-fn end(alloc: Global, log: Log, step: u64, every: u32) -> Result<Recording, Memory>
+fn end(alloc: Global, log: Log, step: u64, every: u32) -> Result<RecordedRun, Memory>
     requires early { step ≤ 4096 }
     ensures { IfOk result (λ recording. (funcs : List Func)
         → IsLog funcs every step log.entries (map seen_by log.seen) → HaltsAt funcs step
@@ -167,12 +167,12 @@ fn end(alloc: Global, log: Log, step: u64, every: u32) -> Result<Recording, Memo
         limit: ENTRIES,
         entries,
     };
-    Ok(Recording { schedule, seen })
+    Ok(RecordedRun { schedule, seen })
 }
 
 /// Runs the program to its end, with one session that samples before each step at which the clock
 /// asks.
-pub(crate) fn record(alloc: Global, program: &Program, every: u32) -> Result<Recording, Memory>
+pub(crate) fn record(alloc: Global, program: &Program, every: u32) -> Result<RecordedRun, Memory>
     requires low { 1 ≤ every }
     requires high { every ≤ MAX_INTERVAL }
     requires straight { IsStraight program.now }

@@ -4,7 +4,7 @@ ghost use Rattle.std.specs.List.{AllByRecursion};
 ghost use Rattle.guest_text.specs.Straight.{IsStraight};
 ghost use Rattle.code_event.specs.Seen.{seen_by};
 ghost use Rattle.prof_base.specs.Causes.{Rose};
-ghost use Rattle.prof_outer.specs.Told.{AppendsWhole, AppendsPart};
+ghost use Rattle.prof_outer.specs.Appends.{AppendsWhole, AppendsPart};
 ghost use Rattle.isolate.specs.PlainFile.{plain_files};
 ghost use Rattle.prof_top.specs.Ending.{run_ending, status_of, IsRunEnding};
 ghost use Rattle.prof_top.specs.HandedOut.{IsHandedOut};
@@ -15,8 +15,8 @@ ghost use Rattle.prof_top.specs.Schedules.{HasSchedules};
 
 use crate::ending::Ending;
 use crate::printing::{printed, schedule_lines};
-use crate::recording::{Recording, SESSION, record};
-use code_event::file;
+use crate::recording::{RecordedRun, SESSION, record};
+use reference_profile::file;
 use guest_text::Program;
 use out_stream::{OutputStream, Undelivered};
 use prof_base::{MAX_INTERVAL, Memory, Sequence};
@@ -46,7 +46,7 @@ fn session_file(
     alloc: Global,
     program: &Program,
     every: u32,
-    recording: &Recording,
+    recording: &RecordedRun,
 ) -> Result<Sequence<u8>, Memory>
     requires low { 1 ≤ every }
     requires high { every ≤ MAX_INTERVAL }

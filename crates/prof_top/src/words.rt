@@ -8,7 +8,7 @@ use std::alloc::Global;
 
 /// What `run PROG EVERY` asks for.
 #[derive(Drop)]
-pub(crate) struct Run {
+pub(crate) struct RunCommand {
     /// The name of the program's text in the depot.
     pub program: Text,
     /// The interval of the session and the base of the isolate, in microseconds, from 1 to
@@ -72,7 +72,7 @@ fn number(word: &str, most: u32) -> Option<u32>
 }
 
 // The command that three words spell.
-fn run_of(alloc: Global, verb: &str, program: &str, every: &str) -> Result<Run, WordsRefused>
+fn run_of(alloc: Global, verb: &str, program: &str, every: &str) -> Result<RunCommand, WordsRefused>
     ensures ok { IfOk result (λ run. IsRun (verb.now ∷ program.now ∷ every.now ∷ []) run.program run.every) }
     ensures usage { IsErrOf result WordsRefused.Usage → ¬ IsCommand (verb.now ∷ program.now ∷ every.now ∷ []) }
 {
@@ -83,11 +83,11 @@ fn run_of(alloc: Global, verb: &str, program: &str, every: &str) -> Result<Run, 
         return Err(WordsRefused::Usage);
     };
     let program = name(alloc, program.as_bytes())?;
-    Ok(Run { program, every })
+    Ok(RunCommand { program, every })
 }
 
 /// The command that the words spell.
-pub(crate) fn command(alloc: Global, words: &[String]) -> Result<Run, WordsRefused>
+pub(crate) fn command(alloc: Global, words: &[String]) -> Result<RunCommand, WordsRefused>
     ensures ok { IfOk result (λ run. IsRun (map string_bytes words.now) run.program run.every) }
     ensures usage { IsErrOf result WordsRefused.Usage → ¬ IsCommand (map string_bytes words.now) }
 {

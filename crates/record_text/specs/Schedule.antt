@@ -114,6 +114,6 @@ has_end [] = false
 has_end (entry ∷ entries) = is_end entry.what || has_end entries
 
 -- a schedule that keeps the rules Order, Session and Limit
-pub record IsLegal (schedule : Schedule) : Type 0 where
+pub record IsLegalSchedule (schedule : Schedule) : Type 0 where
   pub each : EachMayFollow schedule [] schedule.entries
   pub ended : has_end schedule.entries ≡ true

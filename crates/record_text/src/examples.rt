@@ -1,37 +1,37 @@
 //! The definitions of schedules, computed on small ones. Each function does nothing: its contract is
 //! the example.
 ghost use Rattle.std.specs.Prelude.{◌≡◌};
-ghost use Rattle.record_text.specs.Schedule.{IsLegal};
+ghost use Rattle.record_text.specs.Schedule.{IsLegalSchedule};
 ghost use Rattle.record_text.specs.Source.{source_after};
 ghost use Rattle.record_text.specs.Examples.{full_at_its_limit, halted_with_room, dropped_with_room, stopped_from_another_port, sampled_for_no_session, sampled_twice_at_a_step, full_before_its_limit, halted_at_its_limit, without_an_end, sampled_behind_its_end, sampled_at_its_budget, falling_in_time, two_sessions};
 
 /// A schedule that keeps all rules is legal, whether it ends by its limit or for a reason of its own.
 pub fn schedules_that_keep_the_rules_are_legal()
-    ensures full { IsLegal full_at_its_limit }
-    ensures halted { IsLegal halted_with_room }
+    ensures full { IsLegalSchedule full_at_its_limit }
+    ensures halted { IsLegalSchedule halted_with_room }
 {}
 
 /// A sample is for some session, alone at its step, and below the budget, and it is dropped only
 /// where the ring had its fill.
 pub fn samples_out_of_place_are_not_legal()
-    ensures dropped { ¬ IsLegal dropped_with_room }
-    ensures no_session { ¬ IsLegal sampled_for_no_session }
-    ensures twice { ¬ IsLegal sampled_twice_at_a_step }
-    ensures at_budget { ¬ IsLegal sampled_at_its_budget }
+    ensures dropped { ¬ IsLegalSchedule dropped_with_room }
+    ensures no_session { ¬ IsLegalSchedule sampled_for_no_session }
+    ensures twice { ¬ IsLegalSchedule sampled_twice_at_a_step }
+    ensures at_budget { ¬ IsLegalSchedule sampled_at_its_budget }
 {}
 
 /// There is an end, nothing stands behind it, and it is `full` in the last place and only there.
 pub fn ends_out_of_place_are_not_legal()
-    ensures full_early { ¬ IsLegal full_before_its_limit }
-    ensures halted_last { ¬ IsLegal halted_at_its_limit }
-    ensures no_end { ¬ IsLegal without_an_end }
-    ensures behind_end { ¬ IsLegal sampled_behind_its_end }
+    ensures full_early { ¬ IsLegalSchedule full_before_its_limit }
+    ensures halted_last { ¬ IsLegalSchedule halted_at_its_limit }
+    ensures no_end { ¬ IsLegalSchedule without_an_end }
+    ensures behind_end { ¬ IsLegalSchedule sampled_behind_its_end }
 {}
 
 /// Time does not fall, and a session is stopped by the port that started it.
 pub fn falling_times_and_stops_from_other_ports_are_not_legal()
-    ensures falling { ¬ IsLegal falling_in_time }
-    ensures other_port { ¬ IsLegal stopped_from_another_port }
+    ensures falling { ¬ IsLegalSchedule falling_in_time }
+    ensures other_port { ¬ IsLegalSchedule stopped_from_another_port }
 {}
 
 /// The source interval is that of the sessions that run, which are rounded to 2,000 and 3,000: none

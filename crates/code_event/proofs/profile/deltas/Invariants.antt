@@ -1,6 +1,0 @@
-use Rattle.std.proofs.Common.{◌≡◌, ◌++◌, drop, map}
-use Rattle.code_event.specs.Finished.{deltas}
-use Rattle.code_event.proofs.profile.deltas.Given as goal
-
-abbrev pub invariant-loop-tick : goal.invariant-loop-tick
-invariant-loop-tick l = l.found ++ deltas l.before (map (λ tick. tick.time) (drop l.tick-index l.ticks)) ≡ deltas l.fn.start (map (λ tick. tick.time) l.ticks)

@@ -1,7 +1,0 @@
-use Rattle.std.proofs.Common.{◌≡◌, take, map}
-use Rattle.code_event.specs.CodeRanges.{reasons_in}
-use Rattle.code_event.specs.Tree.{fin_node}
-use Rattle.code_event.proofs.tree.fin_nodes.Given as goal
-
-abbrev pub invariant-loop-node : goal.invariant-loop-node
-invariant-loop-node l = l.finished ≡ map (fin_node l.node-items l.visits (reasons_in l.reasons)) (take l.node-index l.node-items)

@@ -1,6 +1,0 @@
-use Rattle.std.proofs.Common.{◌≡◌, drop}
-use Rattle.code_event.specs.Tree.{nodes}
-use Rattle.code_event.proofs.tree.nodes.Given as goal
-
-abbrev pub invariant-loop-at : goal.invariant-loop-at
-invariant-loop-at l = l.set.items ≡ nodes (drop l.at l.visits)

@@ -1,6 +1,0 @@
-use Rattle.std.proofs.Common.{◌≡◌, drop}
-use Rattle.code_event.specs.CodeRanges.{reasons_in}
-use Rattle.code_event.proofs.tree.reason_of.Given as goal
-
-abbrev pub invariant-loop-reason : goal.invariant-loop-reason
-invariant-loop-reason l = reasons_in (drop l.reason-index l.reasons) l.entry ≡ reasons_in l.reasons l.entry

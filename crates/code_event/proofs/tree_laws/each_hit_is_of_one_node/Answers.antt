@@ -1,5 +1,0 @@
-use Rattle.code_event.proofs.TreeHits.{hits_counted_once}
-use Rattle.code_event.proofs.tree_laws.each_hit_is_of_one_node.Goals as goal
-
-pub returns : goal.returns
-returns c = hits_counted_once

@@ -1,5 +1,0 @@
-use Rattle.code_event.proofs.TreeChildren.{children_listed}
-use Rattle.code_event.proofs.tree_laws.each_node_but_the_root_is_one_child.Goals as goal
-
-pub returns : goal.returns
-returns c = children_listed

@@ -1,5 +1,0 @@
-use Rattle.code_event.proofs.TreeParents.{one_parent}
-use Rattle.code_event.proofs.tree_laws.every_node_but_the_root_has_a_parent.Goals as goal
-
-pub returns : goal.returns
-returns c = one_parent

@@ -1,5 +1,0 @@
-use Rattle.code_event.proofs.TreeNodes.{root_first}
-use Rattle.code_event.proofs.tree_laws.the_root_comes_first.Goals as goal
-
-pub returns : goal.returns
-returns c = root_first

@@ -1,0 +1,9 @@
+pub mod Appends
+pub mod Joined
+pub mod Nodes
+pub mod Ordered
+pub mod PathOrder
+pub mod Profiles
+pub mod Sums
+pub mod TreeParts
+pub mod UnitsAbove

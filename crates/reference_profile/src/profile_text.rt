@@ -1,0 +1,206 @@
+// The file of a finished profile: `Profile` in the Chrome DevTools Protocol 1.3 as JSON (RFC 8259),
+// with no space.
+ghost use Rattle.std.specs.Prelude.{◌≡◌, ◌++◌, decimal, map, codes, IfOk, OnOk, option_map};
+ghost use Rattle.json.specs.Print.{quoted};
+ghost use Rattle.code_event.specs.FileText.{list_text, from_zero, call_frame_text, line_text, children_text, lines_text, reason_text, node_text, node_texts, file_text};
+ghost use Rattle.reference_profile.specs.TextParts.{comma_before};
+
+use code_event::{Entry, FinNode, Finished, LineTicks};
+use itoa::Buffer;
+use prof_base::{Memory, Sequence, Text};
+use serde_json::Value;
+use std::alloc::{AllocError, Global};
+
+fn put(out: &mut Vec<u8>, text: &str) -> Result<(), AllocError>
+    ensures { OnOk result (out.new.items ≡ out.old.items ++ text.now) }
+{
+    out.extend_from_slice(text.as_bytes())
+}
+
+fn put_number(out: &mut Vec<u8>, number: u64) -> Result<(), AllocError>
+    ensures { OnOk result (out.new.items ≡ out.old.items ++ decimal number) }
+{
+    put(out, Buffer::new().format(number))
+}
+
+// A number that counts from 1, counted from 0, or -1 for 0.
+fn put_from_zero(out: &mut Vec<u8>, number: u32) -> Result<(), AllocError>
+    ensures { OnOk result (out.new.items ≡ out.old.items ++ from_zero number) }
+{
+    if number == 0 {
+        put(out, "-1")
+    } else {
+        put_number(out, u64::from(number - 1))
+    }
+}
+
+fn put_string(alloc: Global, out: &mut Vec<u8>, text: &Text) -> Result<(), AllocError>
+    ensures { OnOk result (out.new.items ≡ out.old.items ++ quoted text.now) }
+{
+    let value = Value::String(String::from_str(alloc, text.as_str())?);
+    let json = value.to_string(alloc)?;
+    put(out, json.as_str())
+}
+
+// What parts an item of a list from the one before it, if there is one.
+fn put_comma(out: &mut Vec<u8>, at: usize) -> Result<(), AllocError>
+    ensures { OnOk result (out.new.items ≡ out.old.items ++ comma_before at) }
+{
+    if at == 0 { Ok(()) } else { put(out, ",") }
+}
+
+fn put_ids(out: &mut Vec<u8>, ids: &[u32]) -> Result<(), AllocError>
+    ensures { OnOk result (out.new.items ≡ out.old.items ++ list_text (map decimal ids.now)) }
+{
+    put(out, "[")?;
+    for (at, id) in ids.iter().enumerate() {
+        put_comma(out, at)?;
+        put_number(out, u64::from(*id))?;
+    }
+    put(out, "]")
+}
+
+fn put_deltas(out: &mut Vec<u8>, deltas: &[u64]) -> Result<(), AllocError>
+    ensures { OnOk result (out.new.items ≡ out.old.items ++ list_text (map decimal deltas.now)) }
+{
+    put(out, "[")?;
+    for (at, delta) in deltas.iter().enumerate() {
+        put_comma(out, at)?;
+        put_number(out, *delta)?;
+    }
+    put(out, "]")
+}
+
+fn put_call_frame(alloc: Global, out: &mut Vec<u8>, entry: &Entry) -> Result<(), AllocError>
+    ensures { OnOk result (out.new.items ≡ out.old.items ++ call_frame_text entry.now) }
+{
+    put(out, "{\"functionName\":")?;
+    put_string(alloc, out, &entry.name)?;
+    put(out, ",\"scriptId\":\"")?;
+    put_number(out, u64::from(entry.script))?;
+    put(out, "\",\"url\":")?;
+    put_string(alloc, out, &entry.url)?;
+    put(out, ",\"lineNumber\":")?;
+    put_from_zero(out, entry.line)?;
+    put(out, ",\"columnNumber\":")?;
+    put_from_zero(out, entry.column)?;
+    put(out, "}")
+}
+
+fn put_line(out: &mut Vec<u8>, line: &LineTicks) -> Result<(), AllocError>
+    ensures { OnOk result (out.new.items ≡ out.old.items ++ line_text line.now) }
+{
+    put(out, "{\"line\":")?;
+    put_number(out, u64::from(line.line))?;
+    put(out, ",\"ticks\":")?;
+    put_number(out, line.ticks)?;
+    put(out, "}")
+}
+
+fn put_line_list(out: &mut Vec<u8>, lines: &[LineTicks]) -> Result<(), AllocError>
+    ensures { OnOk result (out.new.items ≡ out.old.items ++ list_text (map line_text lines.now)) }
+{
+    put(out, "[")?;
+    for (at, line) in lines.iter().enumerate() {
+        put_comma(out, at)?;
+        put_line(out, line)?;
+    }
+    put(out, "]")
+}
+
+fn put_children(out: &mut Vec<u8>, ids: &[u32]) -> Result<(), AllocError>
+    ensures { OnOk result (out.new.items ≡ out.old.items ++ children_text ids.now) }
+{
+    match ids {
+        [] => Ok(()),
+        [_, ..] => {
+            put(out, ",\"children\":")?;
+            put_ids(out, ids)
+        }
+    }
+}
+
+fn put_lines(out: &mut Vec<u8>, lines: &[LineTicks]) -> Result<(), AllocError>
+    ensures { OnOk result (out.new.items ≡ out.old.items ++ lines_text lines.now) }
+{
+    match lines {
+        [] => Ok(()),
+        [_, ..] => {
+            put(out, ",\"positionTicks\":")?;
+            put_line_list(out, lines)
+        }
+    }
+}
+
+// A reason, unless it is empty.
+fn put_some_reason(alloc: Global, out: &mut Vec<u8>, text: &Text) -> Result<(), AllocError>
+    ensures { OnOk result (out.new.items ≡ out.old.items ++ reason_text (Some text.now)) }
+{
+    match text.bytes() {
+        [] => Ok(()),
+        [_, ..] => {
+            put(out, ",\"deoptReason\":")?;
+            put_string(alloc, out, text)
+        }
+    }
+}
+
+fn put_reason(alloc: Global, out: &mut Vec<u8>, reason: &Option<Text>) -> Result<(), AllocError>
+    ensures { OnOk result (out.new.items ≡ out.old.items ++ reason_text reason.now) }
+{
+    match reason {
+        None => Ok(()),
+        Some(text) => put_some_reason(alloc, out, text),
+    }
+}
+
+fn put_node(alloc: Global, out: &mut Vec<u8>, id: u64, node: &FinNode) -> Result<(), AllocError>
+    ensures { OnOk result (out.new.items ≡ out.old.items ++ node_text id node.now) }
+{
+    put(out, "{\"id\":")?;
+    put_number(out, id)?;
+    put(out, ",\"callFrame\":")?;
+    put_call_frame(alloc, out, &node.entry)?;
+    put(out, ",\"hitCount\":")?;
+    put_number(out, node.hits)?;
+    put_children(out, node.children.as_slice())?;
+    put_lines(out, node.lines.as_slice())?;
+    put_reason(alloc, out, &node.reason)?;
+    put(out, "}")
+}
+
+fn put_nodes(alloc: Global, out: &mut Vec<u8>, nodes: &[FinNode]) -> Result<(), AllocError>
+    ensures { OnOk result (out.new.items ≡ out.old.items ++ list_text (node_texts 1 nodes.now)) }
+{
+    put(out, "[")?;
+    for (at, node) in nodes.iter().enumerate() {
+        put_comma(out, at)?;
+        put_node(alloc, out, at as u64 + 1, node)?;
+    }
+    put(out, "]")
+}
+
+fn put_profile(alloc: Global, out: &mut Vec<u8>, profile: &Finished) -> Result<(), AllocError>
+    ensures { OnOk result (out.new.items ≡ out.old.items ++ file_text profile.now) }
+{
+    put(out, "{\"nodes\":")?;
+    put_nodes(alloc, out, profile.nodes.as_slice())?;
+    put(out, ",\"startTime\":")?;
+    put_number(out, profile.start.value())?;
+    put(out, ",\"endTime\":")?;
+    put_number(out, profile.end.value())?;
+    put(out, ",\"samples\":")?;
+    put_ids(out, profile.samples.as_slice())?;
+    put(out, ",\"timeDeltas\":")?;
+    put_deltas(out, profile.deltas.as_slice())?;
+    put(out, "}")
+}
+
+/// The file of a finished profile.
+pub fn file_text(alloc: Global, profile: &Finished) -> Result<Sequence<u8>, Memory>
+    ensures { IfOk result (λ text. text ≡ file_text profile.now) }
+{
+    let mut out = Vec::new(alloc);
+    put_profile(alloc, &mut out, profile)?;
+    Ok(Sequence::from_vec(out))
+}
