@@ -7,7 +7,7 @@ use Rattle.record_text.specs.declared.schedule.EndCause.TheVariants as cause
 use Rattle.record_text.specs.declared.schedule.What.{What}
 use Rattle.record_text.specs.declared.schedule.What.TheVariants.{Sampled, Dropped, Start, Stop, End}
 use Rattle.record_text.specs.declared.schedule.ScheduleEntry.{ScheduleEntry}
-use Rattle.record_text.specs.declared.schedule.Schedule.{Schedule}
+use Rattle.record_text.specs.ScheduleParts.{ScheduleParts}
 
 -- a start from port 0 of a session that lists all its samples
 abbrev pub start_every : (interval : ℕ) → 1 ≤ interval → interval ≤ 1000000000 → What
@@ -22,59 +22,59 @@ abbrev pub started : ScheduleEntry
 started = at 0 (start_every 1 (lit≤ tt) (lit≤ tt))
 
 -- the ring has one place, and there are ten steps and five entries at most
-abbrev pub with_entries : List ScheduleEntry → Schedule
+abbrev pub with_entries : List ScheduleEntry → ScheduleParts
 with_entries entries = record { base = 1; ring = 1; budget = 10; limit = 5; entries = entries }
 
 -- its last place is taken by an end that says so
-abbrev pub full_at_its_limit : Schedule
+abbrev pub full_at_its_limit : ScheduleParts
 full_at_its_limit = with_entries (started ∷ at 1 Sampled ∷ at 2 Dropped ∷ at 3 (Stop 0 (session 1)) ∷ at 3 (End cause.Full) ∷ [])
 
 -- the program halts while there is room for more entries
-abbrev pub halted_with_room : Schedule
+abbrev pub halted_with_room : ScheduleParts
 halted_with_room = with_entries (started ∷ at 1 Sampled ∷ at 2 (End cause.Halt) ∷ [])
 
 -- a sample is dropped while the ring has a place for it
-abbrev pub dropped_with_room : Schedule
+abbrev pub dropped_with_room : ScheduleParts
 dropped_with_room = with_entries (started ∷ at 1 Dropped ∷ at 2 (End cause.Halt) ∷ [])
 
 -- a session is stopped from a port that did not start it
-abbrev pub stopped_from_another_port : Schedule
+abbrev pub stopped_from_another_port : ScheduleParts
 stopped_from_another_port = with_entries (started ∷ at 1 Sampled ∷ at 2 Dropped ∷ at 3 (Stop 1 (session 1)) ∷ at 3 (End cause.Full) ∷ [])
 
 -- a sample is taken while no session runs
-abbrev pub sampled_for_no_session : Schedule
+abbrev pub sampled_for_no_session : ScheduleParts
 sampled_for_no_session = with_entries (at 1 Sampled ∷ at 2 (End cause.Halt) ∷ [])
 
 -- two samples are taken at one step
-abbrev pub sampled_twice_at_a_step : Schedule
+abbrev pub sampled_twice_at_a_step : ScheduleParts
 sampled_twice_at_a_step = with_entries (started ∷ at 1 Sampled ∷ at 1 Sampled ∷ at 2 (End cause.Halt) ∷ [])
 
 -- the end says that there is no room, and there is
-abbrev pub full_before_its_limit : Schedule
+abbrev pub full_before_its_limit : ScheduleParts
 full_before_its_limit = with_entries (started ∷ at 1 Sampled ∷ at 1 (End cause.Full) ∷ [])
 
 -- the last place is taken by an end that does not say so
-abbrev pub halted_at_its_limit : Schedule
+abbrev pub halted_at_its_limit : ScheduleParts
 halted_at_its_limit = with_entries (started ∷ at 1 Sampled ∷ at 2 Dropped ∷ at 3 (Stop 0 (session 1)) ∷ at 3 (End cause.Halt) ∷ [])
 
 -- there is no end
-abbrev pub without_an_end : Schedule
+abbrev pub without_an_end : ScheduleParts
 without_an_end = with_entries (started ∷ at 1 Sampled ∷ [])
 
 -- a sample stands behind the end
-abbrev pub sampled_behind_its_end : Schedule
+abbrev pub sampled_behind_its_end : ScheduleParts
 sampled_behind_its_end = with_entries (started ∷ at 1 Sampled ∷ at 2 (End cause.Halt) ∷ at 3 Sampled ∷ [])
 
 -- a sample is taken when there are no steps left
-abbrev pub sampled_at_its_budget : Schedule
+abbrev pub sampled_at_its_budget : ScheduleParts
 sampled_at_its_budget = with_entries (started ∷ at 10 Sampled ∷ at 10 (End cause.Halt) ∷ [])
 
 -- the end is earlier than the sample before it
-abbrev pub falling_in_time : Schedule
+abbrev pub falling_in_time : ScheduleParts
 falling_in_time = with_entries (started ∷ at 1 Sampled ∷ record { step = 2; time = 0; what = End cause.Halt } ∷ [])
 
 -- Two sessions, every 2,000 and every 2,500 microseconds, at base 1,000. The first is stopped.
-abbrev pub two_sessions : Schedule
+abbrev pub two_sessions : ScheduleParts
 two_sessions =
     record {
       base = 1000;

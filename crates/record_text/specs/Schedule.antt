@@ -6,7 +6,7 @@ use Rattle.record_text.specs.declared.schedule.EndCause.TheVariants as cause
 use Rattle.record_text.specs.declared.schedule.What.{What}
 use Rattle.record_text.specs.declared.schedule.What.TheVariants.{Sampled, Dropped, Start, Stop, End}
 use Rattle.record_text.specs.declared.schedule.ScheduleEntry.{ScheduleEntry}
-use Rattle.record_text.specs.declared.schedule.Schedule.{Schedule}
+use Rattle.record_text.specs.ScheduleParts.{ScheduleParts}
 
 -- a session that runs: its number, the port that started it, and its interval
 pub record Running : Type 0 where
@@ -83,29 +83,29 @@ IsAtLastStep (entry ∷ []) step = entry.step ≡ step
 IsAtLastStep (entry ∷ next ∷ entries) step = IsAtLastStep (next ∷ entries) step
 
 -- the rule Limit of an entry with this number that is no end: there is room for an end behind it, and it is within the budget
-abbrev pub LeavesRoom : Schedule → ℕ → ℕ → Type 0
+abbrev pub LeavesRoom : ScheduleParts → ℕ → ℕ → Type 0
 LeavesRoom schedule number step = (number < schedule.limit) × (step < schedule.budget)
 
 -- the rule Limit of an end with this number: it is `full` just where it takes the last place, and then it is at the step before it; it is `budget` only where the steps have reached the budget
-abbrev pub IsEndWithin : Schedule → List ScheduleEntry → ℕ → ℕ → EndCause → Type 0
+abbrev pub IsEndWithin : ScheduleParts → List ScheduleEntry → ℕ → ℕ → EndCause → Type 0
 IsEndWithin schedule before number step cause.Full = (number ≡ schedule.limit) × IsAtLastStep before step × (step ≤ schedule.budget)
 IsEndWithin schedule before number step cause.Budget = (number < schedule.limit) × (step ≡ schedule.budget)
 IsEndWithin schedule before number step other = (number < schedule.limit) × (step ≤ schedule.budget)
 
 -- the rule Limit: before a sample is dropped, at least as many were taken as the ring has places
-abbrev pub IsWithinLimits : Schedule → List ScheduleEntry → ℕ → What → Type 0
+abbrev pub IsWithinLimits : ScheduleParts → List ScheduleEntry → ℕ → What → Type 0
 IsWithinLimits schedule before step Dropped = LeavesRoom schedule (suc (length before)) step × (schedule.ring ≤ count_by (λ entry. is_sampled entry.what) before)
 IsWithinLimits schedule before step (End cause) = IsEndWithin schedule before (suc (length before)) step cause
 IsWithinLimits schedule before step other = LeavesRoom schedule (suc (length before)) step
 
 -- an entry keeps the rules behind these
-pub record MayFollow (schedule : Schedule) (before : List ScheduleEntry) (entry : ScheduleEntry) : Type 0 where
+pub record MayFollow (schedule : ScheduleParts) (before : List ScheduleEntry) (entry : ScheduleEntry) : Type 0 where
   pub order : IsInOrder before entry
   pub session : HasSession (running_after before) entry.what
   pub limit : IsWithinLimits schedule before entry.step entry.what
 
 -- each of these entries keeps the rules behind those before it, the first behind `before`
-abbrev pub EachMayFollow : Schedule → List ScheduleEntry → List ScheduleEntry → Type 0
+abbrev pub EachMayFollow : ScheduleParts → List ScheduleEntry → List ScheduleEntry → Type 0
 EachMayFollow schedule before [] = Unit {0}
 EachMayFollow schedule before (entry ∷ entries) = MayFollow schedule before entry × EachMayFollow schedule (before ++ entry ∷ []) entries
 
@@ -114,6 +114,6 @@ has_end [] = false
 has_end (entry ∷ entries) = is_end entry.what || has_end entries
 
 -- a schedule that keeps the rules Order, Session and Limit
-pub record IsLegalSchedule (schedule : Schedule) : Type 0 where
+pub record IsLegalSchedule (schedule : ScheduleParts) : Type 0 where
   pub each : EachMayFollow schedule [] schedule.entries
   pub ended : has_end schedule.entries ≡ true

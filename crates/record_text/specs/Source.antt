@@ -1,7 +1,7 @@
 -- The interval at which samples are taken for the sessions that run.
 use Rattle.std.specs.Prelude.{ℕ, zero, suc, ◌%◌, List, [], ◌∷◌, map, take, ◌==◌, if◌then◌else◌}
 use Rattle.prof_base.specs.Interval.{rounded_of, IsSourceInterval}
-use Rattle.record_text.specs.declared.schedule.Schedule.{Schedule}
+use Rattle.record_text.specs.ScheduleParts.{ScheduleParts}
 use Rattle.record_text.specs.Schedule.{Running, running_after}
 
 -- Euclid's remainders, so many at most
@@ -27,7 +27,7 @@ abbrev pub source_for : ℕ → List Running → ℕ
 source_for base running = source_of base (map (λ session. session.interval) running)
 
 -- the source interval after so many entries
-abbrev pub source_after : Schedule → ℕ → ℕ
+abbrev pub source_after : ScheduleParts → ℕ → ℕ
 source_after schedule number = source_for schedule.base (running_after (take number schedule.entries))
 
 -- it is the common divisor that every common divisor divides

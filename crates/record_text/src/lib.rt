@@ -4,8 +4,10 @@
 
 pub mod examples;
 pub mod laws;
+mod limits;
 mod refused;
 mod schedule;
 
+pub use limits::{DEFAULT_RING, MAX_BUDGET, MAX_ENTRIES, MAX_PORT, MAX_RING, MIN_ENTRIES};
 pub use refused::{LineCause, ReadRefused};
 pub use schedule::{EndCause, Schedule, ScheduleEntry, What};

@@ -1,6 +1,11 @@
 // Schedules: what an isolate did of its own accord, and when.
+ghost use Rattle.std.specs.Prelude.{◌≡◌, ◌↔◌, ◌<◌, ◌≤◌, [], ◌∷◌, ◌++◌, false, length, IfOk, IsTrue};
+
+use crate::limits::{MAX_BUDGET, MAX_ENTRIES, MAX_RING, MIN_ENTRIES};
 use code_event::Options;
-use prof_base::{Micros, Sequence, SessionId};
+use prof_base::{MAX_INTERVAL, Memory, Micros, SessionId};
+use std::alloc::Global;
+use std::marker::Model;
 
 /// Why a run ended.
 #[derive(Clone, Copy, Debug, PartialEq, Eq)]
@@ -44,18 +49,116 @@ pub struct ScheduleEntry {
 }
 
 /// A run of an isolate, by what the guest itself does not tell: with the guest's program it gives
-/// each sample and each file of the run.
+/// each sample and each file of the run. The memory for all entries up to the limit is taken when
+/// it is made.
 #[derive(Debug, Drop)]
 pub struct Schedule {
-    /// The isolate's base interval in microseconds, from 1 to 1,000,000,000: each session's interval
-    /// is rounded up to a multiple of it.
-    pub base: u32,
-    /// How many samples wait at most to be taken, from 1 to 1,024.
-    pub ring: u32,
-    /// The greatest number of steps, from 1 to 100,000,000.
-    pub budget: u64,
-    /// The greatest number of entries, from 2 to 1,048,576.
-    pub limit: u32,
+    base: u32,
+    ring: u32,
+    budget: u64,
+    limit: u32,
+    entries: Vec<ScheduleEntry>,
+}
+
+impl Model for Schedule {
+    ghost use Rattle.std.specs.Prelude.{◌≤◌, vec_capacity};
+    ghost use Rattle.record_text.specs.ScheduleParts.{ScheduleParts, IsInRange};
+
+    ghost Value = { ScheduleParts };
+
+    ghost view = { λ s. record { base = s.base; ring = s.ring; budget = s.budget; limit = s.limit; entries = s.entries.items } };
+
+    ghost invariant = { λ s. IsInRange (record { base = s.base; ring = s.ring; budget = s.budget; limit = s.limit; entries = s.entries.items })
+        × (s.limit ≤ vec_capacity s.entries) };
+}
+
+impl Schedule {
+    /// A schedule with no entries. It takes the memory for `limit` entries.
+    pub fn new(
+        alloc: Global,
+        base: u32,
+        ring: u32,
+        budget: u64,
+        limit: u32,
+    ) -> Result<Schedule, Memory>
+        requires base_low { 1 ≤ base }
+        requires base_high { base ≤ MAX_INTERVAL }
+        requires ring_low { 1 ≤ ring }
+        requires ring_high { ring ≤ MAX_RING }
+        requires budget_low { 1 ≤ budget }
+        requires budget_high { budget ≤ MAX_BUDGET }
+        requires limit_low { MIN_ENTRIES ≤ limit }
+        requires limit_high { limit ≤ MAX_ENTRIES }
+        ensures { IfOk result (λ schedule. schedule ≡ record { base = base; ring = ring; budget = budget; limit = limit; entries = [] }) }
+    {
+        let entries = Vec::with_capacity(alloc, limit as usize)?;
+        Ok(Schedule {
+            base,
+            ring,
+            budget,
+            limit,
+            entries,
+        })
+    }
+
+    /// The isolate's base interval in microseconds: each session's interval is rounded up to a
+    /// multiple of it.
+    pub fn base(&self) -> u32
+        ensures base { result ≡ self.now.base }
+        ensures low { 1 ≤ result }
+        ensures high { result ≤ MAX_INTERVAL }
+    {
+        self.base
+    }
+
+    /// The greatest number of samples that wait to be taken.
+    pub fn ring(&self) -> u32
+        ensures ring { result ≡ self.now.ring }
+        ensures low { 1 ≤ result }
+        ensures high { result ≤ MAX_RING }
+    {
+        self.ring
+    }
+
+    /// The greatest number of steps.
+    pub fn budget(&self) -> u64
+        ensures budget { result ≡ self.now.budget }
+        ensures low { 1 ≤ result }
+        ensures high { result ≤ MAX_BUDGET }
+    {
+        self.budget
+    }
+
+    /// The greatest number of entries.
+    pub fn limit(&self) -> u32
+        ensures limit { result ≡ self.now.limit }
+        ensures low { MIN_ENTRIES ≤ result }
+        ensures high { result ≤ MAX_ENTRIES }
+    {
+        self.limit
+    }
+
     /// What came about, in order.
-    pub entries: Sequence<ScheduleEntry>,
+    pub fn entries(&self) -> &[ScheduleEntry]
+        ensures entries { result.now ≡ self.now.entries }
+        ensures room { length result.now ≤ self.now.limit }
+    {
+        self.entries.as_slice()
+    }
+
+    /// Whether there is no room for a further entry.
+    pub fn is_full(&self) -> bool
+        ensures full { IsTrue result ↔ (length self.now.entries ≡ self.now.limit) }
+        ensures room { result ≡ false → length self.now.entries < self.now.limit }
+    {
+        self.entries.len() == self.limit as usize
+    }
+
+    /// Adds an entry after the last one. It takes no memory.
+    pub fn enter(&mut self, entry: ScheduleEntry)
+        requires { length self.old.entries < self.old.limit }
+        ensures { self.new ≡ record self.old { entries = self.old.entries ++ entry ∷ [] } }
+    {
+        self.entries.push(entry).unwrap();
+    }
 }
