@@ -18,6 +18,18 @@ pub record Outside : Type 0 where
   pub stream_faults : ℕ
   pub out_faults : ℕ
 
+-- the same, by its parts
+abbrev pub outside : Option FileMap → ℕ → ℕ → ℕ → ℕ → ℕ → Outside
+outside held misses read_faults aborts stream_faults out_faults =
+    record {
+      held = held;
+      misses = misses;
+      read_faults = read_faults;
+      aborts = aborts;
+      stream_faults = stream_faults;
+      out_faults = out_faults;
+    }
+
 -- why no program was read under a name, by the files and by two counts before and now
 abbrev pub IsUnreadAs : Option FileMap → List ℕ → ℕ → ℕ → ℕ → ℕ → Unread → Type 0
 IsUnreadAs held name misses misses' faults faults' unread.Missing = LacksFile held name × Rose misses misses'

@@ -9,13 +9,18 @@ use Rattle.out_stream.specs.Parts.{Parts}
 use Rattle.isolate.specs.PlainFile.{SessionFile}
 use Rattle.prof_top.specs.Written.{IsWritten}
 
--- what the stream and `out` tell at one moment
+-- what can be observed of the stream and of `out` at one moment
 pub record Outlets : Type 0 where
   pub parts : Option Parts
   pub aborts : ℕ
   pub stream_faults : ℕ
   pub written : Option (List ℕ)
   pub out_faults : ℕ
+
+-- the same, by its parts
+abbrev pub outlets : Option Parts → ℕ → ℕ → Option (List ℕ) → ℕ → Outlets
+outlets parts aborts stream_faults written out_faults =
+    record { parts = parts; aborts = aborts; stream_faults = stream_faults; written = written; out_faults = out_faults }
 
 -- the text with this number, from 0, and no bytes where there is none
 abbrev pub text_at : List (List ℕ) → ℕ → List ℕ

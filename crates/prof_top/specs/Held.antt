@@ -12,9 +12,9 @@ LacksFile held name = IfSome held (λ files. file_at files name ≡ None)
 abbrev pub HoldsUnreadable : Option FileMap → List ℕ → Type 0
 HoldsUnreadable held name = IfSome held (λ files. IsSomeAnd (file_at files name) (λ text. ¬ HasReading text))
 
--- where the depot tells a file under the name, it has a reading
+-- where the depot tells, it has a file under the name, and that has a reading
 abbrev pub MayRead : Option FileMap → List ℕ → Type 0
-MayRead held name = IfSome held (λ files. IfSome (file_at files name) HasReading)
+MayRead held name = IfSome held (λ files. IsSomeAnd (file_at files name) HasReading)
 
 -- the same of the name that the words give
 abbrev pub MayReadProgram : Option FileMap → List (List ℕ) → Type 0

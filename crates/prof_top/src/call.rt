@@ -12,7 +12,8 @@ ghost use Rattle.prof_top.specs.Said.{IsNamed, IsSaid};
 ghost use Rattle.prof_top.specs.Schedules.{OfRun, IsHead, IsAfterRun, IsBeforeRun, HasSchedules};
 ghost use Rattle.prof_top.specs.Status.{IsStatus};
 ghost use Rattle.prof_top.specs.StepClock.{IsStepClock};
-ghost use Rattle.prof_top.specs.Causes.{IsEndedAs};
+ghost use Rattle.prof_top.specs.Causes.{IsEndedAs, outside};
+ghost use Rattle.prof_top.specs.HandedOut.{outlets};
 
 use crate::ending::{Ending, report};
 use crate::load::load;
@@ -47,22 +48,8 @@ fn load_and_run<D: Depot, S: OutputStream, O: Sink>(
     out: &mut O,
 ) -> Ran
     ensures ending { IsEndedAs (map string_bytes words.now)
-        (record {
-          held = D.held depot.old;
-          misses = D.misses depot.old;
-          read_faults = D.read_faults depot.old;
-          aborts = S.aborts stream.old;
-          stream_faults = S.stream_faults stream.old;
-          out_faults = O.faults out.old;
-        })
-        (record {
-          held = D.held depot.new;
-          misses = D.misses depot.new;
-          read_faults = D.read_faults depot.new;
-          aborts = S.aborts stream.new;
-          stream_faults = S.stream_faults stream.new;
-          out_faults = O.faults out.new;
-        })
+        (outside (D.held depot.old) (D.misses depot.old) (D.read_faults depot.old) (S.aborts stream.old) (S.stream_faults stream.old) (O.faults out.old))
+        (outside (D.held depot.new) (D.misses depot.new) (D.read_faults depot.new) (S.aborts stream.new) (S.stream_faults stream.new) (O.faults out.new))
         result.ending }
     ensures command { (status_of result.ending ≡ 1) ⊎ ((status_of result.ending ≡ 6) ⊎ IsCommand (map string_bytes words.now)) }
     ensures named { IsNamed (map string_bytes words.now) result.ending }
@@ -72,22 +59,18 @@ fn load_and_run<D: Depot, S: OutputStream, O: Sink>(
     ensures counted { HasSchedules result.ending (length result.schedules) }
     ensures kept { AllByRecursion (λ schedule. OfRun (map string_bytes words.now) (D.held depot.old)
         (λ funcs every. IsDone funcs every schedule (status_of result.ending)
-        (record {
-          parts = S.parts stream.old;
-          aborts = S.aborts stream.old;
-          stream_faults = S.stream_faults stream.old;
-          written = O.written out.old;
-          out_faults = O.faults out.old;
-        })
-        (record {
-          parts = S.parts stream.new;
-          aborts = S.aborts stream.new;
-          stream_faults = S.stream_faults stream.new;
-          written = O.written out.new;
-          out_faults = O.faults out.new;
-        }))) result.schedules }
+        (outlets (S.parts stream.old) (S.aborts stream.old) (S.stream_faults stream.old) (O.written out.old) (O.faults out.old))
+        (outlets (S.parts stream.new) (S.aborts stream.new) (S.stream_faults stream.new) (O.written out.new) (O.faults out.new)))) result.schedules }
     ensures no_parts { result.schedules ≡ [] → S.parts stream.new ≡ S.parts stream.old }
     ensures no_text { result.schedules ≡ [] → O.written out.new ≡ O.written out.old }
+
+    // What was handed in goes on: the size of chunks stays, and no count falls.
+    ensures chunk_size { S.chunk_bytes stream.new ≡ S.chunk_bytes stream.old }
+    ensures misses { D.misses depot.old ≤ D.misses depot.new }
+    ensures read_faults { D.read_faults depot.old ≤ D.read_faults depot.new }
+    ensures aborts { S.aborts stream.old ≤ S.aborts stream.new }
+    ensures stream_faults { S.stream_faults stream.old ≤ S.stream_faults stream.new }
+    ensures out_faults { O.faults out.old ≤ O.faults out.new }
 {
     match load(alloc, words, depot) {
         Ok(loaded) => run(alloc, &loaded.program, loaded.every, stream, out),
@@ -108,22 +91,8 @@ pub(crate) fn once<D: Depot, S: OutputStream, O: Sink, E: Sink>(
     err: &mut E,
 ) -> Ran
     ensures ending { IsEndedAs (map string_bytes words.now)
-        (record {
-          held = D.held depot.old;
-          misses = D.misses depot.old;
-          read_faults = D.read_faults depot.old;
-          aborts = S.aborts stream.old;
-          stream_faults = S.stream_faults stream.old;
-          out_faults = O.faults out.old;
-        })
-        (record {
-          held = D.held depot.new;
-          misses = D.misses depot.new;
-          read_faults = D.read_faults depot.new;
-          aborts = S.aborts stream.new;
-          stream_faults = S.stream_faults stream.new;
-          out_faults = O.faults out.new;
-        })
+        (outside (D.held depot.old) (D.misses depot.old) (D.read_faults depot.old) (S.aborts stream.old) (S.stream_faults stream.old) (O.faults out.old))
+        (outside (D.held depot.new) (D.misses depot.new) (D.read_faults depot.new) (S.aborts stream.new) (S.stream_faults stream.new) (O.faults out.new))
         result.ending }
     ensures command { (status_of result.ending ≡ 1) ⊎ ((status_of result.ending ≡ 6) ⊎ IsCommand (map string_bytes words.now)) }
     ensures said { IsSaid (map string_bytes words.now) (status_of result.ending) (E.written err.old) (E.written err.new) (E.faults err.old) (E.faults err.new) }
@@ -133,22 +102,19 @@ pub(crate) fn once<D: Depot, S: OutputStream, O: Sink, E: Sink>(
     ensures counted { HasSchedules result.ending (length result.schedules) }
     ensures kept { AllByRecursion (λ schedule. OfRun (map string_bytes words.now) (D.held depot.old)
         (λ funcs every. IsDone funcs every schedule (status_of result.ending)
-        (record {
-          parts = S.parts stream.old;
-          aborts = S.aborts stream.old;
-          stream_faults = S.stream_faults stream.old;
-          written = O.written out.old;
-          out_faults = O.faults out.old;
-        })
-        (record {
-          parts = S.parts stream.new;
-          aborts = S.aborts stream.new;
-          stream_faults = S.stream_faults stream.new;
-          written = O.written out.new;
-          out_faults = O.faults out.new;
-        }))) result.schedules }
+        (outlets (S.parts stream.old) (S.aborts stream.old) (S.stream_faults stream.old) (O.written out.old) (O.faults out.old))
+        (outlets (S.parts stream.new) (S.aborts stream.new) (S.stream_faults stream.new) (O.written out.new) (O.faults out.new)))) result.schedules }
     ensures no_parts { result.schedules ≡ [] → S.parts stream.new ≡ S.parts stream.old }
     ensures no_text { result.schedules ≡ [] → O.written out.new ≡ O.written out.old }
+
+    // What was handed in goes on: the size of chunks stays, and no count falls.
+    ensures chunk_size { S.chunk_bytes stream.new ≡ S.chunk_bytes stream.old }
+    ensures misses { D.misses depot.old ≤ D.misses depot.new }
+    ensures read_faults { D.read_faults depot.old ≤ D.read_faults depot.new }
+    ensures aborts { S.aborts stream.old ≤ S.aborts stream.new }
+    ensures stream_faults { S.stream_faults stream.old ≤ S.stream_faults stream.new }
+    ensures out_faults { O.faults out.old ≤ O.faults out.new }
+    ensures err_faults { E.faults err.old ≤ E.faults err.new }
 {
     let ran = load_and_run(alloc, words, depot, stream, out);
     let ending = report(alloc, ran.ending, err);
@@ -181,8 +147,8 @@ pub fn cpuprof_once<D: Depot, O: Sink, E: Sink>(
 
     // The program's text has no reading.
     ensures refused { result.status ≡ 2 → NamesProgram (map string_bytes words.now) (HoldsUnreadable (D.held depot.old)) }
-    ensures readable { (result.status ≡ 2) ⊎ ((result.status ≡ 4) ⊎ ((result.status ≡ 6)
-        ⊎ MayReadProgram (D.held depot.old) (map string_bytes words.now))) }
+    ensures readable { (result.status ≡ 2) ⊎ ((result.status ≡ 3) ⊎ ((result.status ≡ 4) ⊎ ((result.status ≡ 6)
+        ⊎ MayReadProgram (D.held depot.old) (map string_bytes words.now)))) }
 
     // A fault of what was handed in.
     ensures missing { result.status ≡ 3 → Rose (D.misses depot.old) (D.misses depot.new) }
@@ -205,28 +171,24 @@ pub fn cpuprof_once<D: Depot, O: Sink, E: Sink>(
     // the stream, its text through `out`. Nothing where nothing ran.
     ensures handed { AllByRecursion (λ schedule. OfRun (map string_bytes words.now) (D.held depot.old)
         (λ funcs every. IsDone funcs every schedule result.status
-        (record {
-          parts = parts stream;
-          aborts = aborts stream;
-          stream_faults = stream_faults stream;
-          written = O.written out.old;
-          out_faults = O.faults out.old;
-        })
-        (record {
-          parts = parts result.stream;
-          aborts = aborts result.stream;
-          stream_faults = stream_faults result.stream;
-          written = O.written out.new;
-          out_faults = O.faults out.new;
-        }))) result.schedules }
+        (outlets (parts stream) (aborts stream) (stream_faults stream) (O.written out.old) (O.faults out.old))
+        (outlets (parts result.stream) (aborts result.stream) (stream_faults result.stream) (O.written out.new) (O.faults out.new)))) result.schedules }
     ensures no_parts { result.schedules ≡ [] → parts result.stream ≡ parts stream }
     ensures no_text { result.schedules ≡ [] → O.written out.new ≡ O.written out.old }
 
     // The line of error.
     ensures said { IsSaid (map string_bytes words.now) result.status (E.written err.old) (E.written err.new) (E.faults err.old) (E.faults err.new) }
 
-    // The depot's files stay.
+    // What was handed in comes back and goes on: the depot's files and the size of chunks stay, and no
+    // count falls.
     ensures held { D.held depot.new ≡ D.held depot.old }
+    ensures chunk_size { chunk_bytes result.stream ≡ chunk_bytes stream }
+    ensures misses { D.misses depot.old ≤ D.misses depot.new }
+    ensures read_faults { D.read_faults depot.old ≤ D.read_faults depot.new }
+    ensures aborts { aborts stream ≤ aborts result.stream }
+    ensures stream_faults { stream_faults stream ≤ stream_faults result.stream }
+    ensures out_faults { O.faults out.old ≤ O.faults out.new }
+    ensures err_faults { E.faults err.old ≤ E.faults err.new }
 {
     let mut stream = stream;
     let ran = once(alloc, words, depot, &mut stream, out, err);

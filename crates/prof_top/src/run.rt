@@ -7,7 +7,7 @@ ghost use Rattle.prof_base.specs.Causes.{Rose};
 ghost use Rattle.prof_outer.specs.Appends.{AppendsWhole, AppendsPart};
 ghost use Rattle.isolate.specs.PlainFile.{plain_files};
 ghost use Rattle.prof_top.specs.Ending.{run_ending, status_of, IsRunEnding};
-ghost use Rattle.prof_top.specs.HandedOut.{IsHandedOut};
+ghost use Rattle.prof_top.specs.HandedOut.{IsHandedOut, outlets};
 ghost use Rattle.prof_top.specs.Log.{IsRecorded, IsWholeRun};
 ghost use Rattle.prof_top.specs.PrintedText.{file_line, delivered_of, one_file};
 ghost use Rattle.prof_top.specs.RunSchedule.{IsDone};
@@ -132,22 +132,11 @@ fn hand_out<S: OutputStream, O: Sink>(
 
     // What has come out.
     ensures handed { IsHandedOut (one_file file.now) (λ files. lines.now ++ flat_map file_line files) (status_of result)
-        (record {
-          parts = S.parts stream.old;
-          aborts = S.aborts stream.old;
-          stream_faults = S.stream_faults stream.old;
-          written = O.written out.old;
-          out_faults = O.faults out.old;
-        })
-        (record {
-          parts = S.parts stream.new;
-          aborts = S.aborts stream.new;
-          stream_faults = S.stream_faults stream.new;
-          written = O.written out.new;
-          out_faults = O.faults out.new;
-        }) }
+        (outlets (S.parts stream.old) (S.aborts stream.old) (S.stream_faults stream.old) (O.written out.old) (O.faults out.old))
+        (outlets (S.parts stream.new) (S.aborts stream.new) (S.stream_faults stream.new) (O.written out.new) (O.faults out.new)) }
 
-    // No count falls.
+    // The stream's size of chunks stays, and no count falls.
+    ensures chunk_size { S.chunk_bytes stream.new ≡ S.chunk_bytes stream.old }
     ensures aborts { S.aborts stream.old ≤ S.aborts stream.new }
     ensures stream_faults { S.stream_faults stream.old ≤ S.stream_faults stream.new }
     ensures out_faults { O.faults out.old ≤ O.faults out.new }
@@ -177,24 +166,13 @@ pub(crate) fn run<S: OutputStream, O: Sink>(
     // The schedule of the run, and what has come out of it.
     ensures counted { HasSchedules result.ending (length result.schedules) }
     ensures kept { AllByRecursion (λ schedule. IsDone program.now every schedule (status_of result.ending)
-        (record {
-          parts = S.parts stream.old;
-          aborts = S.aborts stream.old;
-          stream_faults = S.stream_faults stream.old;
-          written = O.written out.old;
-          out_faults = O.faults out.old;
-        })
-        (record {
-          parts = S.parts stream.new;
-          aborts = S.aborts stream.new;
-          stream_faults = S.stream_faults stream.new;
-          written = O.written out.new;
-          out_faults = O.faults out.new;
-        })) result.schedules }
+        (outlets (S.parts stream.old) (S.aborts stream.old) (S.stream_faults stream.old) (O.written out.old) (O.faults out.old))
+        (outlets (S.parts stream.new) (S.aborts stream.new) (S.stream_faults stream.new) (O.written out.new) (O.faults out.new))) result.schedules }
     ensures no_parts { result.schedules ≡ [] → S.parts stream.new ≡ S.parts stream.old }
     ensures no_text { result.schedules ≡ [] → O.written out.new ≡ O.written out.old }
 
-    // No count falls.
+    // The stream's size of chunks stays, and no count falls.
+    ensures chunk_size { S.chunk_bytes stream.new ≡ S.chunk_bytes stream.old }
     ensures aborts { S.aborts stream.old ≤ S.aborts stream.new }
     ensures stream_faults { S.stream_faults stream.old ≤ S.stream_faults stream.new }
     ensures out_faults { O.faults out.old ≤ O.faults out.new }

@@ -1,0 +1,86 @@
+// A case, as the file of cases spells it: a title, settings a line each, and the program's text after
+// a line `program`. In that text a line `*N LINE` stands for N copies of LINE, in which `@` is the
+// number of the copy, from 1.
+use anyhow::{Result, bail};
+use std::alloc::Global;
+
+/// A call to make. Of the numbers of calls that fail, 0 means none.
+#[derive(Drop)]
+pub(crate) struct Case<'a> {
+    pub(crate) title: &'a str,
+    pub(crate) words: Vec<String>,
+    /// The name of the program's file.
+    pub(crate) name: &'a str,
+    pub(crate) program: String,
+    /// The stream's size of chunks.
+    pub(crate) chunk: u32,
+    pub(crate) chunk_fails: u64,
+    pub(crate) chunk_aborts: u64,
+    pub(crate) read_fails: u64,
+    pub(crate) out_fails: u64,
+    pub(crate) err_fails: u64,
+}
+
+fn set<'a>(alloc: Global, case: &mut Case<'a>, line: &'a str) -> Result<()> {
+    let (key, value) = line.split_once(' ').unwrap_or((line, ""));
+    match key {
+        "word" => case.words.push(String::from_str(alloc, value)?)?,
+        "name" => case.name = value,
+        "chunk" => case.chunk = value.parse()?,
+        "chunk-fails" => case.chunk_fails = value.parse()?,
+        "chunk-aborts" => case.chunk_aborts = value.parse()?,
+        "read-fails" => case.read_fails = value.parse()?,
+        "out-fails" => case.out_fails = value.parse()?,
+        "err-fails" => case.err_fails = value.parse()?,
+        _ => bail!("no setting of a case: {key}"),
+    }
+    Ok(())
+}
+
+// Adds a line as often as it says.
+fn push_line(alloc: Global, program: &mut String, line: &str) -> Result<()> {
+    let Some(copies) = line.strip_prefix('*') else {
+        program.push_str(line)?;
+        program.push_str("\n")?;
+        return Ok(());
+    };
+    let (count, line) = copies.split_once(' ').unwrap_or(("0", ""));
+    let count: u32 = count.parse()?;
+    for number in 0..count {
+        let number = format!(in alloc; "{}", u64::from(number) + 1)?;
+        for (at, part) in line.split('@').enumerate() {
+            if at > 0 {
+                program.push_str(number.as_str())?;
+            }
+            program.push_str(part)?;
+        }
+        program.push_str("\n")?;
+    }
+    Ok(())
+}
+
+/// The case that a block of the file spells.
+pub(crate) fn case_of(alloc: Global, block: &str) -> Result<Case<'_>> {
+    let mut case = Case {
+        title: "",
+        words: Vec::new(alloc),
+        name: "p",
+        program: String::new(alloc),
+        chunk: 65_536,
+        chunk_fails: 0,
+        chunk_aborts: 0,
+        read_fails: 0,
+        out_fails: 0,
+        err_fails: 0,
+    };
+    let (title, rest) = block.split_once('\n').unwrap_or((block, ""));
+    case.title = title;
+    let (settings, program) = rest.split_once("program\n").unwrap_or((rest, ""));
+    for line in settings.lines() {
+        set(alloc, &mut case, line)?;
+    }
+    for line in program.lines() {
+        push_line(alloc, &mut case.program, line)?;
+    }
+    Ok(case)
+}
