@@ -5,6 +5,8 @@ use std::alloc::Global;
 impl OutputStream for Box<dyn OutputStream + Send> {
     ghost parts = { λ b. (OutputStream-box b).parts b.value };
 
+    ghost offers = { λ b. (OutputStream-box b).offers b.value };
+
     ghost aborts = { λ b. (OutputStream-box b).aborts b.value };
 
     ghost stream_faults = { λ b. (OutputStream-box b).stream_faults b.value };

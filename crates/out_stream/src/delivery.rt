@@ -1,7 +1,10 @@
 // The delivery of a part.
-ghost use Rattle.std.specs.Prelude.{◌≡◌, ◌<◌, ◌≤◌, length, OnOk, OnErr, IsErrOf};
+ghost use Rattle.std.specs.Prelude.{◌≡◌, ◌<◌, ◌≤◌, length, OnOk, OnErr, IfErr, IsErrOf};
 ghost use Rattle.prof_base.specs.Causes.{Rose};
+ghost use Rattle.out_stream.specs.Cut.{cut};
+ghost use Rattle.out_stream.specs.Offers.{went_on, ended};
 ghost use Rattle.out_stream.specs.Parts.{grown, closed, GrowsByPrefix};
+ghost use Rattle.out_stream.specs.Stopped.{Stopped};
 
 use crate::stream::{OutputStream, Undelivered};
 use std::alloc::Global;
@@ -17,11 +20,24 @@ pub fn deliver(
     ensures ok { OnOk result (parts stream.new ≡ closed (grown (parts stream.old) bytes.now)) }
     ensures err { OnErr result (GrowsByPrefix (parts stream.old) (parts stream.new) bytes.now) }
 
-    // An abort and a fault have their counts, which stand still where all went on.
+    // It offers the chunks of the cut, each once and in order, and then the end, or stops.
+    ensures offers { OnOk result (offers stream.new ≡
+        ended (went_on (offers stream.old) (cut (chunk_bytes stream.old) (length bytes.now)))) }
+    ensures stopped { IfErr result (λ why.
+        Stopped why (cut (chunk_bytes stream.old) (length bytes.now)) bytes.now
+        (parts stream.old) (parts stream.new) (offers stream.old) (offers stream.new)) }
+
+    // An abort and a fault have their counts.
     ensures aborted { IsErrOf result Undelivered.Aborted → Rose (aborts stream.old) (aborts stream.new) }
     ensures failed { IsErrOf result Undelivered.Failed → Rose (stream_faults stream.old) (stream_faults stream.new) }
+
+    // A count changes at its own answer only.
     ensures no_abort { OnOk result (aborts stream.new ≡ aborts stream.old) }
     ensures no_fault { OnOk result (stream_faults stream.new ≡ stream_faults stream.old) }
+    ensures aborted_only { IsErrOf result Undelivered.Aborted → stream_faults stream.new ≡ stream_faults stream.old }
+    ensures failed_only { IsErrOf result Undelivered.Failed → aborts stream.new ≡ aborts stream.old }
+    ensures memory_aborts { IsErrOf result Undelivered.Memory → aborts stream.new ≡ aborts stream.old }
+    ensures memory_faults { IsErrOf result Undelivered.Memory → stream_faults stream.new ≡ stream_faults stream.old }
 
     // The size stays, and no count falls.
     ensures size { chunk_bytes stream.new ≡ chunk_bytes stream.old }

@@ -1,17 +1,19 @@
 // The stream that the program itself uses.
-ghost use Rattle.std.specs.Prelude.{◌≡◌, None};
+ghost use Rattle.std.specs.Prelude.{◌≡◌, None, IfOk, string_bytes};
+ghost use Rattle.out_stream.specs.PartName.{part_name};
 
 use crate::stream::{Chunk, OutputStream};
-use std::alloc::Global;
-use std::fs;
+use std::alloc::{AllocError, Global};
 use std::io::Write;
 use std::rt::Files;
+use std::{fs, io};
 
 /// The size of a chunk, in bytes.
 const CHUNK: u32 = 65_536;
 
 /// Writes each part to a file of its own in the folder in which the program runs: part K of stream I
-/// to `cpuprof-I-K.cpuprofile`, K from 1. A file of that name is written over.
+/// to `cpuprof-I-K.cpuprofile`, K from 1. A file of that name is written over. A file is made with the
+/// first bytes of its part: a stream that got nothing makes none. Each chunk is flushed.
 #[derive(Drop)]
 pub struct FileStream<R: Files + Drop> {
     rt: R,
@@ -25,6 +27,7 @@ impl<R: Files + Drop> FileStream<R> {
     /// The stream with this number. It opens nothing and takes no memory.
     pub fn new(rt: R, number: u8) -> FileStream<R>
         ensures parts { ⟦<FileStream<R> as OutputStream>⟧.parts result ≡ None }
+        ensures offers { ⟦<FileStream<R> as OutputStream>⟧.offers result ≡ None }
         ensures aborts { ⟦<FileStream<R> as OutputStream>⟧.aborts result ≡ 0 }
         ensures faults { ⟦<FileStream<R> as OutputStream>⟧.stream_faults result ≡ 0 }
         ensures size { ⟦<FileStream<R> as OutputStream>⟧.chunk_bytes result ≡ 65536 }
@@ -39,18 +42,32 @@ impl<R: Files + Drop> FileStream<R> {
     }
 }
 
+// The name of the file of this part.
+fn part_name(alloc: Global, number: u8, part: u64) -> Result<String, AllocError>
+    ensures { IfOk result (λ name. string_bytes name ≡ part_name number part) }
+{
+    format!(in alloc; "cpuprof-{number}-{part}.cpuprofile")
+}
+
 fn create_part<R: Files>(rt: &R, alloc: Global, number: u8, part: u64) -> Result<R::File, Chunk> {
-    let Ok(path) = format!(in alloc; "cpuprof-{number}-{part}.cpuprofile") else {
+    let Ok(name) = part_name(alloc, number, part) else {
         return Err(Chunk::Memory);
     };
-    match fs::create(rt, path.as_str()) {
+    match fs::create(rt, name.as_str()) {
         Ok(file) => Ok(file),
         Err(_) => Err(Chunk::Failed),
     }
 }
 
+fn write_and_flush<W: Write>(writer: &mut W, bytes: &[u8]) -> io::Result<()> {
+    writer.write_all(bytes)?;
+    writer.flush()
+}
+
 impl<R: Files + Drop> OutputStream for FileStream<R> {
     ghost parts = { λ _. None };
+
+    ghost offers = { λ _. None };
 
     ghost aborts = { λ _. 0 };
 
@@ -69,7 +86,7 @@ impl<R: Files + Drop> OutputStream for FileStream<R> {
         };
         let answer = match file {
             Ok(mut file) => {
-                let written = file.write_all(chunk);
+                let written = write_and_flush(&mut file, chunk);
                 self.file = Some(file);
                 if written.is_ok() {
                     Chunk::Continue

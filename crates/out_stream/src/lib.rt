@@ -2,12 +2,14 @@
 //! file to it.
 //!
 //! A stream answers Abort or Failed only where its own count of these rose in the call. What a
-//! stream holds is optional in contracts: the real one does not tell it.
+//! stream holds and was offered is optional in contracts: of the real one it cannot be observed.
 #![tactic(auto)]
 
 mod boxed;
 mod delivery;
 mod file;
+mod held;
+pub mod laws;
 mod memory;
 mod stream;
 #[cfg(test)]
@@ -16,4 +18,4 @@ mod tests;
 pub use delivery::deliver;
 pub use file::FileStream;
 pub use memory::{MemoryStream, SureStream};
-pub use stream::{Chunk, OutputStream, Undelivered};
+pub use stream::{Chunk, Offer, OutputStream, Undelivered};

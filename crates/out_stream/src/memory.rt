@@ -1,20 +1,17 @@
 // Streams in memory.
-ghost use Rattle.std.specs.Prelude.{◌≡◌, ◌<◌, ◌≤◌, [], Some, map, option_map, vec_len, vec_capacity};
+ghost use Rattle.std.specs.Prelude.{◌≡◌, ◌≤◌, [], Some, map, option_map};
 
-use crate::stream::{Chunk, OutputStream};
+use crate::held::Held;
+use crate::stream::{Chunk, Offer, OutputStream};
 use std::alloc::Global;
-use std::mem;
 
 /// Parts in memory. It neither fails nor aborts.
 #[derive(Drop)]
 pub struct SureStream {
-    alloc: Global,
-    closed: Vec<Vec<u8>>,
-    unfinished: Vec<u8>,
+    held: Held,
     chunk: u32,
     ghost low: { 1 ≤ chunk },
     ghost high: { chunk ≤ 65536 },
-    ghost room: { 0 < vec_len unfinished → vec_len closed < vec_capacity closed },
 }
 
 impl SureStream {
@@ -23,14 +20,13 @@ impl SureStream {
         requires low { 1 ≤ chunk }
         requires high { chunk ≤ 65536 }
         ensures parts { ⟦<SureStream as OutputStream>⟧.parts result ≡ Some ([], []) }
+        ensures offers { ⟦<SureStream as OutputStream>⟧.offers result ≡ Some [] }
         ensures aborts { ⟦<SureStream as OutputStream>⟧.aborts result ≡ 0 }
         ensures faults { ⟦<SureStream as OutputStream>⟧.stream_faults result ≡ 0 }
         ensures size { ⟦<SureStream as OutputStream>⟧.chunk_bytes result ≡ chunk }
     {
         SureStream {
-            alloc,
-            closed: Vec::new(alloc),
-            unfinished: Vec::new(alloc),
+            held: Held::new(alloc),
             chunk,
         }
     }
@@ -39,19 +35,28 @@ impl SureStream {
     pub fn closed_parts(&self) -> &[Vec<u8>]
         ensures { option_map (λ p. p.0) (⟦<SureStream as OutputStream>⟧.parts self.now) ≡ Some (map (λ part. part.items) result.now) }
     {
-        &self.closed
+        self.held.closed_parts()
     }
 
     /// The bytes of the unfinished part.
     pub fn unfinished_part(&self) -> &[u8]
         ensures { option_map (λ p. p.1) (⟦<SureStream as OutputStream>⟧.parts self.now) ≡ Some result.now }
     {
-        &self.unfinished
+        self.held.unfinished_part()
+    }
+
+    /// What the stream was offered, in order.
+    pub fn offers(&self) -> &[Offer]
+        ensures { ⟦<SureStream as OutputStream>⟧.offers self.now ≡ Some result.now }
+    {
+        self.held.offers()
     }
 }
 
 impl OutputStream for SureStream {
-    ghost parts = { λ s. Some (map (λ part. part.items) s.closed.items, s.unfinished.items) };
+    ghost parts = { λ s. Some (map (λ part. part.items) s.held.closed.items, s.held.unfinished.items) };
+
+    ghost offers = { λ s. Some s.held.offers.items };
 
     ghost aborts = { λ _. 0 };
 
@@ -63,48 +68,48 @@ impl OutputStream for SureStream {
         self.chunk
     }
 
-    // The room that the part takes once it is closed is made here, where memory may be refused.
     fn write_chunk(&mut self, _alloc: Global, chunk: &[u8]) -> Chunk {
-        if self.closed.reserve(1).is_err() {
-            return Chunk::Memory;
-        }
-        match self.unfinished.extend_from_slice(chunk) {
+        match self.held.take(chunk, Chunk::Continue) {
             Ok(()) => Chunk::Continue,
             Err(_) => Chunk::Memory,
         }
     }
 
     fn end_of_stream(&mut self) {
-        let part = mem::replace(&mut self.unfinished, Vec::new(self.alloc));
-        self.closed.push(part).unwrap();
+        self.held.close();
     }
 }
 
 /// Parts in memory, whose chunks fail or abort at chosen calls.
 #[derive(Drop)]
 pub struct MemoryStream {
-    stream: SureStream,
+    held: Held,
+    chunk: u32,
     failing: Vec<u64>,
     aborting: Vec<u64>,
     calls: u64,
     failed: u64,
     aborted: u64,
+    ghost low: { 1 ≤ chunk },
+    ghost high: { chunk ≤ 65536 },
 }
 
 impl MemoryStream {
     /// A stream with no part, of this size of chunks, in bytes. The calls of `write_chunk` whose
     /// numbers are in `failing` fail, and else those in `aborting` abort; the first call has number
-    /// 1. It takes no memory.
+    /// 1, and a call that memory refuses has none. It takes no memory.
     pub fn new(alloc: Global, chunk: u32, failing: Vec<u64>, aborting: Vec<u64>) -> MemoryStream
         requires low { 1 ≤ chunk }
         requires high { chunk ≤ 65536 }
         ensures parts { ⟦<MemoryStream as OutputStream>⟧.parts result ≡ Some ([], []) }
+        ensures offers { ⟦<MemoryStream as OutputStream>⟧.offers result ≡ Some [] }
         ensures aborts { ⟦<MemoryStream as OutputStream>⟧.aborts result ≡ 0 }
         ensures faults { ⟦<MemoryStream as OutputStream>⟧.stream_faults result ≡ 0 }
         ensures size { ⟦<MemoryStream as OutputStream>⟧.chunk_bytes result ≡ chunk }
     {
         MemoryStream {
-            stream: SureStream::new(alloc, chunk),
+            held: Held::new(alloc),
+            chunk,
             failing,
             aborting,
             calls: 0,
@@ -117,45 +122,65 @@ impl MemoryStream {
     pub fn closed_parts(&self) -> &[Vec<u8>]
         ensures { option_map (λ p. p.0) (⟦<MemoryStream as OutputStream>⟧.parts self.now) ≡ Some (map (λ part. part.items) result.now) }
     {
-        self.stream.closed_parts()
+        self.held.closed_parts()
     }
 
     /// The bytes of the unfinished part.
     pub fn unfinished_part(&self) -> &[u8]
         ensures { option_map (λ p. p.1) (⟦<MemoryStream as OutputStream>⟧.parts self.now) ≡ Some result.now }
     {
-        self.stream.unfinished_part()
+        self.held.unfinished_part()
+    }
+
+    /// What the stream was offered, in order.
+    pub fn offers(&self) -> &[Offer]
+        ensures { ⟦<MemoryStream as OutputStream>⟧.offers self.now ≡ Some result.now }
+    {
+        self.held.offers()
     }
 }
 
 impl OutputStream for MemoryStream {
-    ghost parts = { λ s. ⟦<SureStream as OutputStream>⟧.parts s.stream };
+    ghost parts = { λ s. Some (map (λ part. part.items) s.held.closed.items, s.held.unfinished.items) };
+
+    ghost offers = { λ s. Some s.held.offers.items };
 
     ghost aborts = { λ s. s.aborted };
 
     ghost stream_faults = { λ s. s.failed };
 
-    ghost chunk_bytes = { λ s. ⟦<SureStream as OutputStream>⟧.chunk_bytes s.stream };
+    ghost chunk_bytes = { λ s. s.chunk };
 
     fn chunk_size(&self) -> u32 {
-        self.stream.chunk_size()
+        self.chunk
     }
 
-    fn write_chunk(&mut self, alloc: Global, chunk: &[u8]) -> Chunk {
-        self.calls = self.calls.saturating_add(1);
-        if self.failing.contains(&self.calls) {
+    fn write_chunk(&mut self, _alloc: Global, chunk: &[u8]) -> Chunk {
+        let call = self.calls.saturating_add(1);
+        if self.failing.contains(&call) {
+            if self.held.refuse(chunk.len(), Chunk::Failed).is_err() {
+                return Chunk::Memory;
+            }
+            self.calls = call;
             self.failed = self.failed.saturating_add(1);
             return Chunk::Failed;
         }
-        let taken = self.stream.write_chunk(alloc, chunk);
-        if taken == Chunk::Continue && self.aborting.contains(&self.calls) {
+        if self.aborting.contains(&call) {
+            if self.held.take(chunk, Chunk::Abort).is_err() {
+                return Chunk::Memory;
+            }
+            self.calls = call;
             self.aborted = self.aborted.saturating_add(1);
             return Chunk::Abort;
         }
-        taken
+        if self.held.take(chunk, Chunk::Continue).is_err() {
+            return Chunk::Memory;
+        }
+        self.calls = call;
+        Chunk::Continue
     }
 
     fn end_of_stream(&mut self) {
-        self.stream.end_of_stream();
+        self.held.close();
     }
 }

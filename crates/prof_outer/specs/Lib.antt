@@ -1,3 +1,3 @@
+pub mod Appends
 pub mod Files
 pub mod Stored
-pub mod Told

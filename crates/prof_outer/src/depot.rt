@@ -1,5 +1,5 @@
 // Files by name.
-ghost use Rattle.std.specs.Prelude.{◌≡◌, ◌≤◌, ℕ, Option, None, Some, IfOk, IsErrOf, IfSome, IfNone};
+ghost use Rattle.std.specs.Prelude.{◌≡◌, ◌≤◌, ℕ, Option, None, Some, IfOk, OnOk, IsErrOf, IfSome, IfNone};
 ghost use Rattle.prof_base.specs.Causes.{Rose};
 ghost use Rattle.prof_outer.specs.Files.{FileMap, file_at};
 ghost use Rattle.prof_outer.specs.Stored.{files_of};
@@ -20,7 +20,7 @@ pub enum GetFault {
 
 /// Files that are read by their names.
 pub trait Depot: Drop {
-    /// The files, where the depot tells them.
+    /// The files, where they can be observed.
     ghost held: { Self → Option FileMap };
 
     /// How often a file was missing.
@@ -37,6 +37,14 @@ pub trait Depot: Drop {
         // A fault has its count.
         ensures missing { IsErrOf result GetFault.Missing → Rose (misses self.old) (misses self.new) }
         ensures failed { IsErrOf result GetFault.Failed → Rose (read_faults self.old) (read_faults self.new) }
+
+        // Only its own fault changes a count: Ok and lack of memory change none.
+        ensures no_miss { OnOk result (misses self.new ≡ misses self.old) }
+        ensures no_read_fault { OnOk result (read_faults self.new ≡ read_faults self.old) }
+        ensures missing_only { IsErrOf result GetFault.Missing → read_faults self.new ≡ read_faults self.old }
+        ensures failed_only { IsErrOf result GetFault.Failed → misses self.new ≡ misses self.old }
+        ensures memory_misses { IsErrOf result GetFault.Memory → misses self.new ≡ misses self.old }
+        ensures memory_read_faults { IsErrOf result GetFault.Memory → read_faults self.new ≡ read_faults self.old }
 
         // The files stay, and no count falls.
         ensures held { held self.new ≡ held self.old }

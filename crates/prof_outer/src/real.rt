@@ -1,5 +1,6 @@
 // The depot and the sink that the program itself uses.
-ghost use Rattle.std.specs.Prelude.{◌≡◌, None};
+ghost use Rattle.std.specs.Prelude.{◌≡◌, ◌≤◌, ◌↔◌, IsTrue, None, IfOk, IfSome, length, vec_len};
+ghost use Rattle.std.specs.IoError.{error_kind};
 
 use crate::depot::{Depot, GetFault};
 use crate::sink::{Sink, SinkFault};
@@ -13,7 +14,7 @@ use std::{fs, io};
 pub const MAX_FILE: usize = 268_435_456;
 
 /// The files of the folder in which the program runs. A file of more than [`MAX_FILE`] bytes is a
-/// read fault.
+/// read fault. A file is missing where the system finds none of the name.
 #[derive(Drop)]
 pub struct Folder<R: Files + Drop> {
     rt: R,
@@ -36,7 +37,11 @@ impl<R: Files + Drop> Folder<R> {
     }
 }
 
-fn fault_of(error: &io::Error) -> GetFault {
+// What an error of the system means of a file.
+fn fault_of(error: &io::Error) -> GetFault
+    ensures missing { (result ≡ GetFault.Missing) ↔ (error_kind error.now ≡ ErrorKind.NotFound) }
+    ensures memory { (result ≡ GetFault.Memory) ↔ (error_kind error.now ≡ ErrorKind.OutOfMemory) }
+{
     match error.kind() {
         ErrorKind::NotFound => GetFault::Missing,
         ErrorKind::OutOfMemory => GetFault::Memory,
@@ -44,17 +49,32 @@ fn fault_of(error: &io::Error) -> GetFault {
     }
 }
 
-// One byte past the limit is asked for, since a device may say that it is empty and give bytes
-// without end.
-fn read_file<R: Files>(rt: &R, alloc: Global, path: &str) -> Result<Vec<u8>, GetFault> {
-    let file = match fs::open(rt, path) {
-        Ok(file) => file,
-        Err(error) => return Err(fault_of(&error)),
-    };
+// Whether a file may have these bytes.
+fn is_within_limit(bytes: &[u8]) -> bool
+    ensures { IsTrue result ↔ (length bytes.now ≤ MAX_FILE) }
+{
+    bytes.len() <= MAX_FILE
+}
+
+// All that the reader gives. One byte past the limit is asked for, since a device may say that it is
+// empty and give bytes without end.
+fn read_whole<S: Read + Drop>(alloc: Global, source: S) -> Result<Vec<u8>, GetFault>
+    ensures whole { IfOk result (λ bytes. IfSome (S.remaining source) (λ all. bytes.items ≡ all)) }
+    ensures within { IfOk result (λ bytes. vec_len bytes ≤ MAX_FILE) }
+{
     let mut bytes = Vec::new(alloc);
-    match file.take(MAX_FILE as u64 + 1).read_to_end(&mut bytes) {
-        Ok(_) if bytes.len() <= MAX_FILE => Ok(bytes),
+    match source.take(MAX_FILE as u64 + 1).read_to_end(&mut bytes) {
+        Ok(_) if is_within_limit(&bytes) => Ok(bytes),
         Ok(_) => Err(GetFault::Failed),
+        Err(error) => Err(fault_of(&error)),
+    }
+}
+
+fn read_file<R: Files>(rt: &R, alloc: Global, path: &str) -> Result<Vec<u8>, GetFault>
+    ensures { IfOk result (λ bytes. vec_len bytes ≤ MAX_FILE) }
+{
+    match fs::open(rt, path) {
+        Ok(file) => read_whole(alloc, file),
         Err(error) => Err(fault_of(&error)),
     }
 }

@@ -1,7 +1,7 @@
 // A sink of bytes.
 ghost use Rattle.std.specs.Prelude.{◌≡◌, ◌≤◌, List, [], ℕ, Option, Some, OnOk, IsErrOf};
 ghost use Rattle.prof_base.specs.Causes.{Rose};
-ghost use Rattle.prof_outer.specs.Told.{AppendsWhole, AppendsPart};
+ghost use Rattle.prof_outer.specs.Appends.{AppendsWhole, AppendsPart};
 
 use std::alloc::Global;
 
@@ -16,7 +16,7 @@ pub enum SinkFault {
 
 /// Takes bytes in order.
 pub trait Sink: Drop {
-    /// The bytes so far, where the sink tells them.
+    /// The bytes so far, where they can be observed.
     ghost written: { Self → Option (List ℕ) };
 
     /// How often a write failed.
@@ -28,8 +28,10 @@ pub trait Sink: Drop {
         ensures part { IsErrOf result SinkFault.Failed → AppendsPart (written self.old) (written self.new) bytes.now }
         ensures memory { IsErrOf result SinkFault.Memory → written self.new ≡ written self.old }
 
-        // A fault has its count, and the count never falls.
+        // A fault has its count, which changes at nothing else and never falls.
         ensures failed { IsErrOf result SinkFault.Failed → Rose (faults self.old) (faults self.new) }
+        ensures no_fault { OnOk result (faults self.new ≡ faults self.old) }
+        ensures memory_faults { IsErrOf result SinkFault.Memory → faults self.new ≡ faults self.old }
         ensures faults { faults self.old ≤ faults self.new };
 }
 

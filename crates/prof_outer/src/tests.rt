@@ -3,7 +3,7 @@
 ghost use Rattle.std.specs.Prelude.{◌≡◌, ◌≤◌, ◌++◌, Option, None, Some, IfOk, OnOk, IsErrOf, IfSome};
 ghost use Rattle.prof_base.specs.Causes.{Rose};
 ghost use Rattle.prof_outer.specs.Files.{file_at};
-ghost use Rattle.prof_outer.specs.Told.{AppendsWhole};
+ghost use Rattle.prof_outer.specs.Appends.{AppendsWhole};
 
 use crate::{
     Depot, Folder, GetFault, MemoryDepot, MemorySink, Sink, SinkFault, Stored, SureDepot, SureSink,

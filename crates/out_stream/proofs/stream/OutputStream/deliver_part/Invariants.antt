@@ -6,8 +6,9 @@ abbrev pub invariant-loop-rest : goal.invariant-loop-rest
 invariant-loop-rest g l =
     let stream = g.Self.OutputStream in
     record {
-      sent : Sent l.bytes l.rest (stream.parts l.fn.self) (stream.parts l.self);
+      sent : Sent l.size l.bytes l.rest (stream.parts l.fn.self) (stream.parts l.self) (stream.offers l.fn.self) (stream.offers l.self);
       size : stream.chunk_bytes l.self ≡ stream.chunk_bytes l.fn.self;
+      size_is : l.size ≡ stream.chunk_bytes l.fn.self;
       positive : 1 ≤ l.size;
       no_abort : stream.aborts l.self ≡ stream.aborts l.fn.self;
       no_fault : stream.stream_faults l.self ≡ stream.stream_faults l.fn.self;

@@ -1,0 +1,9 @@
+//! The limits as numbers.
+ghost use Rattle.std.specs.Prelude.{◌≡◌};
+
+use crate::real::MAX_FILE;
+
+/// The greatest file that a folder reads has 256 MiB.
+pub fn max_file()
+    ensures { MAX_FILE ≡ 268435456 }
+{}
