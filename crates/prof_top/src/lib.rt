@@ -13,5 +13,3 @@ mod words;
 
 pub use call::{Outcome, cpuprof_once};
 
-#[cfg(test)]
-mod tests;
