@@ -10,8 +10,6 @@ mod depot;
 pub mod limits;
 mod real;
 mod sink;
-#[cfg(test)]
-mod tests;
 
 pub use depot::{Depot, GetFault, MemoryDepot, Stored, SureDepot};
 pub use real::{Folder, MAX_FILE, WriterSink};
