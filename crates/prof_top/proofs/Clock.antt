@@ -11,12 +11,12 @@ use Rattle.code_event.specs.declared.event.Options.{Options}
 use Rattle.isolate.proofs.Going.{going_before, may_come}
 use Rattle.isolate.specs.Fits.{IsGoing, MayEndFor, MayComeAbout, Fits}
 use Rattle.record_text.specs.Schedule.{Course, course_after, course_on, running_after, is_end, MayStandBehind, IsInOrder, IsEndWithin, MayFollow, EachMayFollow, IsAtLastStep, has_end, IsLegalSchedule}
+use Rattle.record_text.specs.ScheduleParts.{ScheduleParts}
 use Rattle.record_text.specs.declared.schedule.EndCause.{EndCause}
 use Rattle.record_text.specs.declared.schedule.EndCause.TheVariants as cause
 use Rattle.record_text.specs.declared.schedule.What.{What}
 use Rattle.record_text.specs.declared.schedule.What.TheVariants.{Sampled, Start, End}
 use Rattle.record_text.specs.declared.schedule.ScheduleEntry.{ScheduleEntry}
-use Rattle.record_text.specs.declared.schedule.Schedule.{Schedule}
 use Rattle.prof_top.specs.ClockLaws.{ClocksAreLegal, ClocksFit}
 use Rattle.prof_top.specs.StepClock.{entry_at, is_asked, samples_before, entries_before, last_step, EndsWithin}
 
@@ -78,7 +78,7 @@ one_runs options step =
     ap (λ (c : Course). length c.running) (samples_start_none options.interval step course)
 
 -- one entry more
-follows_more : (schedule : Schedule) (before entries : List ScheduleEntry) (entry : ScheduleEntry) → EachMayFollow schedule before entries → MayFollow schedule (before ++ entries) entry → EachMayFollow schedule before (entries ++ entry ∷ [])
+follows_more : (schedule : ScheduleParts) (before entries : List ScheduleEntry) (entry : ScheduleEntry) → EachMayFollow schedule before entries → MayFollow schedule (before ++ entries) entry → EachMayFollow schedule before (entries ++ entry ∷ [])
 follows_more schedule before [] entry each may = (subst (λ list. MayFollow schedule list entry) (append-nil before) may, tt)
 follows_more schedule before (first ∷ entries) entry each may =
     (each.0, follows_more schedule (before ++ first ∷ []) entries entry each.1 (subst (λ list. MayFollow schedule list entry) (sym (append_assoc before (first ∷ []) entries)) may))
@@ -98,17 +98,17 @@ asked_late : (every step : ℕ) → is_asked every step ≡ true → 1 ≤ step
 asked_late every zero asked = absurd (cc asked)
 asked_late every (suc step) asked = omega arith
 
-start_may_follow : (schedule : Schedule) (options : Options) → 2 ≤ schedule.limit → 1 ≤ schedule.budget → MayFollow schedule [] (entry_at 0 (Start options))
+start_may_follow : (schedule : ScheduleParts) (options : Options) → 2 ≤ schedule.limit → 1 ≤ schedule.budget → MayFollow schedule [] (entry_at 0 (Start options))
 start_may_follow schedule options places steps = record { order = tt; session = lit< tt; limit = (omega (arith, places), omega (arith, steps)) }
 
-sample_may_follow : (schedule : Schedule) (options : Options) (step : ℕ) → 1 ≤ step → suc (length (entries_before options step)) < schedule.limit → step < schedule.budget → MayFollow schedule (entries_before options step) (entry_at step Sampled)
+sample_may_follow : (schedule : ScheduleParts) (options : Options) (step : ℕ) → 1 ≤ step → suc (length (entries_before options step)) < schedule.limit → step < schedule.budget → MayFollow schedule (entries_before options step) (entry_at step Sampled)
 sample_may_follow schedule options step some places steps = record {
   order = in_order step Sampled (entries_before options step) (entries_earlier options step step (omega arith) some);
   session = omega (arith, one_runs options step);
   limit = (places, steps);
 }
 
-each_follows : (schedule : Schedule) (options : Options) (step : ℕ) → 1 ≤ schedule.budget → step ≤ schedule.budget → length (entries_before options step) < schedule.limit → EachMayFollow schedule [] (entries_before options step)
+each_follows : (schedule : ScheduleParts) (options : Options) (step : ℕ) → 1 ≤ schedule.budget → step ≤ schedule.budget → length (entries_before options step) < schedule.limit → EachMayFollow schedule [] (entries_before options step)
 each_follows schedule options zero some steps places = (start_may_follow schedule options (omega (arith, places)) some, tt)
 each_follows schedule options (suc step) some steps places =
     let before = entries_before options step in
@@ -122,7 +122,7 @@ each_follows schedule options (suc step) some steps places =
     places
 
 -- the guest's own end, or the budget's, within the budget
-end_within : (funcs : List Func) (schedule : Schedule) (before : List ScheduleEntry) (step : ℕ) (cause : EndCause) → suc (length before) < schedule.limit → EndsWithin funcs schedule.budget step cause → IsEndWithin schedule before (suc (length before)) step cause
+end_within : (funcs : List Func) (schedule : ScheduleParts) (before : List ScheduleEntry) (step : ℕ) (cause : EndCause) → suc (length before) < schedule.limit → EndsWithin funcs schedule.budget step cause → IsEndWithin schedule before (suc (length before)) step cause
 end_within funcs schedule before step cause.Halt places ends = (places, ends.0)
 end_within funcs schedule before step cause.Overflow places ends = (places, ends.0)
 end_within funcs schedule before step cause.OffEnd places ends = (places, ends.0)
@@ -149,7 +149,7 @@ steps_within funcs budget step cause.Full ends = absurd ends
 steps_within funcs budget step cause.Memory ends = absurd ends
 
 -- where there is room for all, the schedule keeps the rules
-clock_is_legal : (funcs : List Func) (schedule : Schedule) (options : Options) (step : ℕ) (cause : EndCause) → 1 ≤ schedule.budget
+clock_is_legal : (funcs : List Func) (schedule : ScheduleParts) (options : Options) (step : ℕ) (cause : EndCause) → 1 ≤ schedule.budget
     → EndsWithin funcs schedule.budget step cause → suc (length (entries_before options step)) < schedule.limit
     → schedule.entries ≡ entries_before options step ++ entry_at step (End cause) ∷ [] → IsLegalSchedule schedule
 clock_is_legal funcs schedule options step cause some ends places made =
@@ -189,7 +189,7 @@ all_came funcs budget options at step cause within late ends =
     (λ entry is. may_come funcs entry.step entry.what is.no_end (going_before funcs entry.step (step - 1) (omega (arith, is.step)) (going_so_far funcs budget step cause ends)))
     (entries_earlier options at step within late)
 
-clock_fits : (funcs : List Func) (schedule : Schedule) (options : Options) (step : ℕ) (cause : EndCause) → 1 ≤ schedule.budget
+clock_fits : (funcs : List Func) (schedule : ScheduleParts) (options : Options) (step : ℕ) (cause : EndCause) → 1 ≤ schedule.budget
     → EndsWithin funcs schedule.budget step cause
     → schedule.entries ≡ entries_before options step ++ entry_at step (End cause) ∷ [] → Fits funcs schedule
 clock_fits funcs schedule options step cause some ends made =
@@ -262,7 +262,7 @@ last_earlier : (moment : ℕ) (entry : ScheduleEntry) (entries : List ScheduleEn
 last_earlier moment entry [] earlier = earlier.0.step
 last_earlier moment entry (next ∷ entries) earlier = last_earlier moment next entries earlier.1
 
-full_may_follow : (schedule : Schedule) (options : Options) (step : ℕ) → suc (length (entries_before options step)) ≡ schedule.limit → last_step (entries_before options step) ≤ schedule.budget
+full_may_follow : (schedule : ScheduleParts) (options : Options) (step : ℕ) → suc (length (entries_before options step)) ≡ schedule.limit → last_step (entries_before options step) ≤ schedule.budget
     → MayFollow schedule (entries_before options step) (entry_at (last_step (entries_before options step)) (End cause.Full))
 full_may_follow schedule options step places steps =
     let before = entries_before options step in
@@ -276,11 +276,11 @@ full_may_follow schedule options step places steps =
     }
 
 -- the schedule that is full, up to the step at which it is so
-record IsFull (schedule : Schedule) (options : Options) (step : ℕ) : Type 0 where
+record IsFull (schedule : ScheduleParts) (options : Options) (step : ℕ) : Type 0 where
   pub cut : IsCut options step (schedule.limit - 1)
   pub made : schedule.entries ≡ entries_before options cut.at ++ entry_at (last_step (entries_before options cut.at)) (End cause.Full) ∷ []
 
-full_of : (schedule : Schedule) (options : Options) (step : ℕ) → 2 ≤ schedule.limit → schedule.limit - 1 ≤ length (entries_before options step)
+full_of : (schedule : ScheduleParts) (options : Options) (step : ℕ) → 2 ≤ schedule.limit → schedule.limit - 1 ≤ length (entries_before options step)
     → schedule.entries ≡ take (schedule.limit - 1) (entries_before options step) ++ entry_at (last_step (take (schedule.limit - 1) (entries_before options step))) (End cause.Full) ∷ []
     → IsFull schedule options step
 full_of schedule options step places fits made =
@@ -291,7 +291,7 @@ last_within : (options : Options) (step moment : ℕ) → step ≤ moment → 1 
 last_within options step moment within some =
     last_earlier moment (entry_at 0 (Start options)) (samples_before options.interval step) (entries_earlier options step moment within some)
 
-full_is_legal : (funcs : List Func) (schedule : Schedule) (options : Options) (step : ℕ) (own : EndCause) → 1 ≤ schedule.budget → 2 ≤ schedule.limit
+full_is_legal : (funcs : List Func) (schedule : ScheduleParts) (options : Options) (step : ℕ) (own : EndCause) → 1 ≤ schedule.budget → 2 ≤ schedule.limit
     → EndsWithin funcs schedule.budget step own → IsFull schedule options step → IsLegalSchedule schedule
 full_is_legal funcs schedule options step own some places ends full =
     let at = full.cut.at in
@@ -314,7 +314,7 @@ clocks_are_legal funcs every schedule some places clock =
     (λ room made. clock_is_legal funcs schedule clock.options clock.step clock.cause some clock.ends (roomy schedule.limit (length before) room) made)
     clock.made
 
-full_fits : (funcs : List Func) (schedule : Schedule) (options : Options) (step : ℕ) (own : EndCause) → 1 ≤ schedule.budget
+full_fits : (funcs : List Func) (schedule : ScheduleParts) (options : Options) (step : ℕ) (own : EndCause) → 1 ≤ schedule.budget
     → EndsWithin funcs schedule.budget step own → IsFull schedule options step → Fits funcs schedule
 full_fits funcs schedule options step own some ends full =
     let at = full.cut.at in

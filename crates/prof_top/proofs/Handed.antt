@@ -5,7 +5,6 @@ use Rattle.std.specs.Prelude.{Option, Some, None, option_map, Result, Ok, Err, O
 use Rattle.std.specs.List.{AllByRecursion}
 use Rattle.guest_text.specs.declared.instr.Func.{Func}
 use Rattle.isolate.specs.PlainFile.{SessionFile, plain_files}
-use Rattle.record_text.specs.declared.schedule.Schedule.{Schedule}
 use Rattle.prof_base.specs.Causes.{Rose}
 use Rattle.prof_outer.specs.Appends.{AppendsWhole, AppendsPart}
 use Rattle.prof_outer.specs.declared.sink.SinkFault.{SinkFault}
@@ -13,6 +12,7 @@ use Rattle.prof_outer.specs.declared.sink.SinkFault.TheVariants as sink
 use Rattle.out_stream.specs.Parts.{Parts, grown, closed, GrowsByPrefix}
 use Rattle.out_stream.specs.declared.stream.Undelivered.{Undelivered}
 use Rattle.out_stream.specs.declared.stream.Undelivered.TheVariants as cut
+use Rattle.record_text.specs.ScheduleParts.{ScheduleParts}
 use Rattle.prof_top.specs.Ending.{run_ending, status_of}
 use Rattle.prof_top.specs.Written.{IsWritten}
 use Rattle.prof_top.specs.declared.ending.Ending.{Ending}
@@ -159,7 +159,7 @@ handed_out lines file ending delivered written before now ends delivers writes =
     subst (λ e. IsHandedOut (one_file file) (λ files. lines ++ flat_map file_line files) (status_of e) before now) (sym ends) (handed_so lines file delivered written before now delivers writes)
 
 -- the schedules of a run, and what has come out of it
-pub run_handed : (funcs : List Func) (every : ℕ) (schedules : List Schedule) (lines file lines' file' : List ℕ) (status : ℕ) (before now : Outlets) → IsWholeRun funcs every schedules lines file
+pub run_handed : (funcs : List Func) (every : ℕ) (schedules : List ScheduleParts) (lines file lines' file' : List ℕ) (status : ℕ) (before now : Outlets) → IsWholeRun funcs every schedules lines file
     → lines' ≡ lines → file' ≡ file → IsHandedOut (one_file file') (λ files. lines' ++ flat_map file_line files) status before now
     → AllByRecursion (λ schedule. IsDone funcs every schedule status before now) schedules
 run_handed funcs every schedules lines file lines' file' status before now run same_lines same_file handed =

@@ -3,17 +3,17 @@ use Rattle.std.specs.Prelude.{◌≡◌, ℕ, ◌≤◌, List}
 use Rattle.guest_text.specs.declared.instr.Func.{Func}
 use Rattle.isolate.specs.Fits.{Fits}
 use Rattle.record_text.specs.Schedule.{IsLegalSchedule}
-use Rattle.record_text.specs.declared.schedule.Schedule.{Schedule}
+use Rattle.record_text.specs.ScheduleParts.{ScheduleParts}
 use Rattle.record_text.specs.declared.schedule.ScheduleEntry.{ScheduleEntry}
 use Rattle.prof_top.specs.StepClock.{IsStepClock}
 
 -- they keep the rules
 abbrev pub ClocksAreLegal : Type 0
-ClocksAreLegal = (funcs : List Func) (every : ℕ) (schedule : Schedule) → 1 ≤ schedule.budget → 2 ≤ schedule.limit → IsStepClock funcs every schedule.budget schedule.limit schedule.entries → IsLegalSchedule schedule
+ClocksAreLegal = (funcs : List Func) (every : ℕ) (schedule : ScheduleParts) → 1 ≤ schedule.budget → 2 ≤ schedule.limit → IsStepClock funcs every schedule.budget schedule.limit schedule.entries → IsLegalSchedule schedule
 
 -- the program comes to all that is in them
 abbrev pub ClocksFit : Type 0
-ClocksFit = (funcs : List Func) (every : ℕ) (schedule : Schedule) → 1 ≤ schedule.budget → 2 ≤ schedule.limit → IsStepClock funcs every schedule.budget schedule.limit schedule.entries → Fits funcs schedule
+ClocksFit = (funcs : List Func) (every : ℕ) (schedule : ScheduleParts) → 1 ≤ schedule.budget → 2 ≤ schedule.limit → IsStepClock funcs every schedule.budget schedule.limit schedule.entries → Fits funcs schedule
 
 -- each run has one, at every interval that a session may have
 abbrev pub ClocksRun : Type 0

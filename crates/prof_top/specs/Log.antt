@@ -11,10 +11,10 @@ use Rattle.code_event.specs.declared.event.Options.{Options}
 use Rattle.guest_machine.specs.PlainMachine.{plain, main_of}
 use Rattle.isolate.specs.Fits.{IsGoing}
 use Rattle.isolate.specs.PlainFile.{SessionFile, tick_at, seen_run, ends_behind, plain_files}
-use Rattle.record_text.specs.declared.schedule.Schedule.{Schedule}
-use Rattle.record_text.specs.declared.schedule.ScheduleEntry.{ScheduleEntry}
+use Rattle.record_text.specs.ScheduleParts.{ScheduleParts}
 use Rattle.prof_top.specs.PrintedText.{one_file, file_line, printed_text}
 use Rattle.prof_top.specs.RunSchedule.{IsRunSchedule}
+use Rattle.prof_top.specs.Schedules.{IsHead}
 use Rattle.prof_top.specs.StepClock.{is_asked, entries_before, last_step, IsWholeRecording}
 use Rattle.prof_top.specs.Straight.{straight_state}
 
@@ -28,11 +28,12 @@ abbrev pub seen_before : List Func → Options → ℕ → List Seen
 seen_before funcs options step =
     started (session 1) options 0 ∷ tick_at funcs 0 0 0 false (Some (session 1)) ∷ ticks_before funcs options.interval step
 
--- these entries have come about before so many steps are done, and this was seen of them
-pub record IsLog (funcs : List Func) (every step : ℕ) (entries : List ScheduleEntry) (seen : List Seen) : Type 0 where
+-- the schedule has the entries that come about before this many steps are done, and this was seen of them
+pub record IsLog (funcs : List Func) (every step : ℕ) (schedule : ScheduleParts) (seen : List Seen) : Type 0 where
   pub options : Options
   pub recording : IsWholeRecording every options
-  pub entries_are : entries ≡ entries_before options step
+  pub head : IsHead every schedule
+  pub entries_are : schedule.entries ≡ entries_before options step
   pub seen_are : seen ≡ seen_before funcs options step
 
 -- the machine halts with that step, and has gone straight on so far
@@ -44,7 +45,7 @@ pub record HaltsAt (funcs : List Func) (step : ℕ) : Type 0 where
   pub state_is : plain funcs step ≡ straight_state funcs index registers true
 
 -- the schedule of a run and what its one session, which the end finishes, has seen; nothing was printed by the guest
-pub record IsRecorded (funcs : List Func) (every : ℕ) (schedule : Schedule) (seen : List Seen) : Type 0 where
+pub record IsRecorded (funcs : List Func) (every : ℕ) (schedule : ScheduleParts) (seen : List Seen) : Type 0 where
   pub run : IsRunSchedule funcs every schedule
   pub seen_is : seen ≡ seen_run funcs schedule
   pub has_file : is_some (recording 1 seen) ≡ true
@@ -52,8 +53,8 @@ pub record IsRecorded (funcs : List Func) (every : ℕ) (schedule : Schedule) (s
   pub silent : (plain funcs (last_step schedule.entries)).printed ≡ []
 
 -- the schedules of a run, which are one, with the lines that are printed of it and the text of its file
-pub record IsWholeRun (funcs : List Func) (every : ℕ) (schedules : List Schedule) (lines file : List ℕ) : Type 0 where
-  pub schedule : Schedule
+pub record IsWholeRun (funcs : List Func) (every : ℕ) (schedules : List ScheduleParts) (lines file : List ℕ) : Type 0 where
+  pub schedule : ScheduleParts
   pub one : schedules ≡ schedule ∷ []
   pub run : IsRunSchedule funcs every schedule
   pub files : plain_files funcs schedule ≡ one_file file

@@ -5,12 +5,12 @@ use Rattle.guest_text.specs.declared.instr.Func.{Func}
 use Rattle.guest_machine.specs.PlainMachine.{plain}
 use Rattle.isolate.specs.PlainFile.{SessionFile}
 use Rattle.record_text.specs.Schedule.{is_sampled}
+use Rattle.record_text.specs.ScheduleParts.{ScheduleParts}
 use Rattle.record_text.specs.declared.schedule.EndCause.{EndCause}
 use Rattle.record_text.specs.declared.schedule.EndCause.TheVariants as cause
 use Rattle.record_text.specs.declared.schedule.What.{What}
 use Rattle.record_text.specs.declared.schedule.What.TheVariants.{Dropped, End}
 use Rattle.record_text.specs.declared.schedule.ScheduleEntry.{ScheduleEntry}
-use Rattle.record_text.specs.declared.schedule.Schedule.{Schedule}
 use Rattle.prof_top.specs.StepClock.{last_step}
 
 -- the word that names why a run ended
@@ -47,7 +47,7 @@ abbrev pub file_line : SessionFile → List ℕ
 file_line file = codes "file " ++ decimal file.session ++ codes " " ++ decimal (length file.text) ++ codes "\n"
 
 -- what is printed of a run and of the files that were delivered: the guest's own text, the lines of the schedule, and a line of each file
-abbrev pub printed_text : List Func → Schedule → List SessionFile → List ℕ
+abbrev pub printed_text : List Func → ScheduleParts → List SessionFile → List ℕ
 printed_text funcs schedule files =
     (plain funcs (last_step schedule.entries)).printed ++ schedule_lines schedule.entries ++ flat_map file_line files
 

@@ -5,10 +5,12 @@ use Rattle.guest_text.specs.ProgramText.{program_text}
 use Rattle.guest_text.specs.Straight.{IsStraight}
 use Rattle.guest_text.specs.declared.instr.Func.{Func}
 use Rattle.prof_outer.specs.Files.{FileMap, file_at}
-use Rattle.record_text.specs.declared.schedule.Schedule.{Schedule}
+use Rattle.record_text.specs.ScheduleParts.{ScheduleParts}
+use Rattle.record_text.specs.declared.limits.TheConstants.{DEFAULT_RING}
 use Rattle.prof_top.specs.Command.{IsRun}
 use Rattle.prof_top.specs.declared.ending.Ending.{Ending}
 use Rattle.prof_top.specs.declared.ending.Ending.TheVariants.{Done, CannotWrite, Aborted, Memory}
+use Rattle.prof_top.specs.declared.recording.TheConstants.{BUDGET, ENTRIES}
 
 -- the program that was read under a name: where the depot tells, the one whose text it has there
 pub record IsProgramRead (held : Option FileMap) (name : List ℕ) (funcs : List Func) : Type 0 where
@@ -24,12 +26,12 @@ IsLoaded words held funcs every = (name : List ℕ) × IsRun words name every ×
 abbrev pub OfRun : List (List ℕ) → Option FileMap → (List Func → ℕ → Type 0) → Type 0
 OfRun words held P = (funcs : List Func) × (every : ℕ) × IsLoaded words held funcs every × P funcs every
 
--- what stands before the entries: the interval as the base, a ring of 256 places, and the limits of steps and of entries
-pub record IsHead (every : ℕ) (schedule : Schedule) : Type 0 where
+-- what stands before the entries: the interval as the base, the ring, the budget of steps and the limit of entries
+pub record IsHead (every : ℕ) (schedule : ScheduleParts) : Type 0 where
   pub base : schedule.base ≡ every
-  pub ring : schedule.ring ≡ 256
-  pub budget : schedule.budget ≡ 1000000
-  pub limit : schedule.limit ≡ 1048576
+  pub ring : schedule.ring ≡ DEFAULT_RING
+  pub budget : schedule.budget ≡ BUDGET
+  pub limit : schedule.limit ≡ ENTRIES
 
 -- the statuses after a run that memory did not cut short
 abbrev pub IsAfterRun : ℕ → Type 0

@@ -17,6 +17,7 @@ ghost use Rattle.prof_top.specs.HandedOut.{outlets};
 
 use crate::ending::{Ending, report};
 use crate::load::load;
+use crate::recording::{BUDGET, ENTRIES};
 use crate::run::{Ran, run};
 use out_stream::OutputStream;
 use prof_base::Sequence;
@@ -165,7 +166,7 @@ pub fn cpuprof_once<D: Depot, O: Sink, E: Sink>(
     ensures fits { AllByRecursion (λ schedule. OfRun (map string_bytes words.now) (D.held depot.old) (λ funcs every. Fits funcs schedule)) result.schedules }
     ensures head { AllByRecursion (λ schedule. OfRun (map string_bytes words.now) (D.held depot.old) (λ funcs every. IsHead every schedule)) result.schedules }
     ensures clock { (result.status ≡ 6) ⊎ AllByRecursion (λ schedule. OfRun (map string_bytes words.now) (D.held depot.old)
-        (λ funcs every. IsStepClock funcs every 1000000 1048576 schedule.entries)) result.schedules }
+        (λ funcs every. IsStepClock funcs every BUDGET ENTRIES schedule.entries)) result.schedules }
 
     // All of that for one and the same program, and what has come out of its run: its files through
     // the stream, its text through `out`. Nothing where nothing ran.

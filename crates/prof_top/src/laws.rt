@@ -1,5 +1,14 @@
 //! Laws of the step clock. Each function does nothing: its contract is the law.
+ghost use Rattle.std.specs.Prelude.{◌≡◌};
 ghost use Rattle.prof_top.specs.ClockLaws.{ClocksAreLegal, ClocksFit, ClocksRun, ClocksAgree};
+
+use crate::recording::{BUDGET, ENTRIES};
+
+/// The limits of a run that contracts cite by name.
+pub fn limits()
+    ensures budget { BUDGET ≡ 1000000 }
+    ensures entries { ENTRIES ≡ 1048576 }
+{}
 
 /// Whatever the program, the interval, the budget and the room, a schedule of the step clock keeps the
 /// rules of schedules, and the program comes to each of its entries.

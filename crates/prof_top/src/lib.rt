@@ -12,4 +12,5 @@ mod run;
 mod words;
 
 pub use call::{Outcome, cpuprof_once};
+pub use recording::{BUDGET, ENTRIES};
 

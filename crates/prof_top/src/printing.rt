@@ -86,7 +86,7 @@ fn samples_line(alloc: Global, entries: &[ScheduleEntry]) -> Result<String, Allo
 pub(crate) fn schedule_lines(alloc: Global, schedule: &Schedule) -> Result<String, AllocError>
     ensures { IfOk result (λ text. string_bytes text ≡ schedule_lines schedule.now.entries) }
 {
-    let entries = schedule.entries.as_slice();
+    let entries = schedule.entries();
     let mut text = end_lines(alloc, entries)?;
     let samples = samples_line(alloc, entries)?;
     text.push_str(samples.as_str())?;

@@ -1,6 +1,6 @@
 // The step clock: a run that reads its steps as microseconds, with what comes about in it and what its
 // session sees.
-ghost use Rattle.std.specs.Prelude.{◌≡◌, ◌≤◌, ◌<◌, ◌++◌, ◌∷◌, [], ◌^◌, ℕ, List, Bool, true, false, Some, None, map, suc, OnOk, IfOk, if◌then◌else◌};
+ghost use Rattle.std.specs.Prelude.{◌≡◌, ◌≤◌, ◌<◌, ◌++◌, ◌∷◌, [], ◌^◌, ℕ, List, Bool, true, false, Some, None, length, map, suc, OnOk, IfOk, if◌then◌else◌};
 ghost use Rattle.guest_text.specs.Straight.{IsStraight};
 ghost use Rattle.guest_text.specs.declared.instr.Func.{Func};
 ghost use Rattle.code_event.specs.DeoptReasons.{no_reasons};
@@ -15,17 +15,14 @@ use crate::machine::Machine;
 use code_event::{Mode, Options, Seen, ResolvedTick};
 use guest_text::Program;
 use prof_base::{MAX_INTERVAL, Memory, Micros, Sequence, SessionId};
-use record_text::{EndCause, Schedule, ScheduleEntry, What};
+use record_text::{DEFAULT_RING, EndCause, Schedule, ScheduleEntry, What};
 use std::alloc::Global;
 
-/// How many samples wait at most to be taken.
-const RING: u32 = 256;
-
 /// The greatest number of steps of a run.
-const BUDGET: u64 = 1_000_000;
+pub const BUDGET: u64 = 1_000_000;
 
 /// The greatest number of entries of a schedule.
-const ENTRIES: u32 = 1_048_576;
+pub const ENTRIES: u32 = 1_048_576;
 
 /// The one session of a run.
 pub(crate) const SESSION: SessionId = SessionId(1);
@@ -95,7 +92,7 @@ fn tick_at(
 /// What has come about so far, and what the session has seen of it.
 #[derive(Debug, Drop)]
 struct Log {
-    entries: Sequence<ScheduleEntry>,
+    schedule: Schedule,
     seen: Sequence<Seen>,
 }
 
@@ -105,11 +102,11 @@ fn start(alloc: Global, machine: &Machine<'_>, every: u32) -> Result<Log, Memory
     requires high { every ≤ MAX_INTERVAL }
     ensures { IfOk result (λ log. (funcs : List Func)
         → IsAfter funcs machine.now.main.now machine.now.index machine.now.registers machine.now.has_halted 0
-        → IsLog funcs every 0 log.entries (map seen_by log.seen)) }
+        → IsLog funcs every 0 log.schedule (map seen_by log.seen)) }
 {
     let options = whole_recording(every);
-    let mut entries = Sequence::new(alloc);
-    entries.push(entry_at(0, What::Start(options)))?;
+    let mut schedule = Schedule::new(alloc, every, DEFAULT_RING, BUDGET, ENTRIES)?;
+    schedule.enter(entry_at(0, What::Start(options)));
     let mut seen = Sequence::new(alloc);
     seen.push(Seen::Started {
         session: SESSION,
@@ -117,7 +114,7 @@ fn start(alloc: Global, machine: &Machine<'_>, every: u32) -> Result<Log, Memory
         time: Micros::new(0),
     })?;
     seen.push(tick_at(alloc, machine, 0, 0, false, Some(SESSION))?)?;
-    Ok(Log { entries, seen })
+    Ok(Log { schedule, seen })
 }
 
 // Takes a sample where the clock asks for one.
@@ -130,13 +127,14 @@ fn take_sample(
 ) -> Result<(), Memory>
     requires low { 1 ≤ every }
     requires early { step < 2 ^ 53 }
+    requires room { length log.old.schedule.entries < log.old.schedule.limit }
     ensures { OnOk result ((funcs : List Func)
         → IsAfter funcs machine.now.main.now machine.now.index machine.now.registers machine.now.has_halted step
-        → IsLog funcs every step log.old.entries (map seen_by log.old.seen)
-        → IsLog funcs every (suc step) log.new.entries (map seen_by log.new.seen)) }
+        → IsLog funcs every step log.old.schedule (map seen_by log.old.seen)
+        → IsLog funcs every (suc step) log.new.schedule (map seen_by log.new.seen)) }
 {
     if is_asked(step, every) {
-        log.entries.push(entry_at(step, What::Sampled))?;
+        log.schedule.enter(entry_at(step, What::Sampled));
         let tick = tick_at(alloc, machine, step, every, true, None)?;
         log.seen.push(tick)?;
     }
@@ -144,29 +142,23 @@ fn take_sample(
 }
 
 // The recording of a run that has ended after so many steps.
-fn end(alloc: Global, log: Log, step: u64, every: u32) -> Result<RecordedRun, Memory>
+fn end(alloc: Global, log: Log, step: u64) -> Result<RecordedRun, Memory>
     requires early { step ≤ 4096 }
-    ensures { IfOk result (λ recording. (funcs : List Func)
-        → IsLog funcs every step log.entries (map seen_by log.seen) → HaltsAt funcs step
+    requires room { length log.schedule.entries < log.schedule.limit }
+    ensures { IfOk result (λ recording. (funcs : List Func) (every : ℕ)
+        → IsLog funcs every step log.schedule (map seen_by log.seen) → HaltsAt funcs step
         → IsRecorded funcs every recording.schedule (map seen_by recording.seen)) }
 {
     let Log {
-        mut entries,
+        mut schedule,
         mut seen,
     } = log;
-    entries.push(entry_at(step, What::End(EndCause::Halt)))?;
+    schedule.enter(entry_at(step, What::End(EndCause::Halt)));
     seen.push(Seen::Finished {
         time: Micros::new(step),
         files: true,
         reasons: Sequence::new(alloc),
     })?;
-    let schedule = Schedule {
-        base: every,
-        ring: RING,
-        budget: BUDGET,
-        limit: ENTRIES,
-        entries,
-    };
     Ok(RecordedRun { schedule, seen })
 }
 
@@ -186,5 +178,5 @@ pub(crate) fn record(alloc: Global, program: &Program, every: u32) -> Result<Rec
         machine.step();
         step += 1;
     }
-    end(alloc, log, step, every)
+    end(alloc, log, step)
 }

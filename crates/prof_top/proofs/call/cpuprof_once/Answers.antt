@@ -5,6 +5,7 @@ use Rattle.prof_top.proofs.call.cpuprof_once.Goals as goal
 use Rattle.prof_top.specs.Ending.{status_of}
 use Rattle.prof_top.specs.Schedules.{IsHead}
 use Rattle.prof_top.specs.StepClock.{IsStepClock}
+use Rattle.prof_top.specs.declared.recording.TheConstants.{BUDGET, ENTRIES}
 
 pub returns-clause-fits : goal.returns-clause-fits
 returns-clause-fits g c =
@@ -19,7 +20,7 @@ returns-clause-head g c =
 pub returns-clause-clock : goal.returns-clause-clock
 returns-clause-clock g c =
     inr (each_of (map string_bytes c.args.words.now) (g.D.Depot.held c.args.depot.now) (status_of c.once-ran.result.ending) _ _ c.once-ran.result.schedules
-    (λ funcs every schedule. IsStepClock funcs every 1000000 1048576 schedule.entries) (λ funcs every schedule is. is.run.clock) c.once-ran.ensures.kept)
+    (λ funcs every schedule. IsStepClock funcs every BUDGET ENTRIES schedule.entries) (λ funcs every schedule is. is.run.clock) c.once-ran.ensures.kept)
 
 pub returns-clause-handed : goal.returns-clause-handed
 returns-clause-handed g c =

@@ -4,6 +4,6 @@ use Rattle.prof_top.proofs.Logs.{ended_log}
 use Rattle.prof_top.proofs.recording.end.Goals as goal
 
 pub returns : goal.returns
-returns c funcs log halts =
-    ended_log funcs c.args.every c.args.step c.entry_at.result c.args.log.entries c.push.new.self (listed.Finished c.new.result true c.new-2.result) c.args.log.seen c.push-2.new.self
-    c.requires.early c.entry_at.ensures c.in_ok-push.ensures.ok (search rules) c.in_ok-push-2.ensures.ok log halts
+returns c funcs every log halts =
+    ended_log funcs every c.args.step c.entry_at.result c.args.log.schedule c.enter.new.self (listed.Finished c.new.result true c.new-2.result) c.args.log.seen c.push.new.self
+    c.requires.early c.entry_at.ensures c.enter.ensures (search rules) c.in_ok-push.ensures.ok log halts

@@ -19,5 +19,5 @@ loop-machine-preserved c =
       few = search rules;
       after = subst (IsAfter funcs machine.main.now machine.index machine.registers machine.has_halted) (next c.loop-machine.step) (c.step.ensures.after funcs c.loop-machine.step i.after);
       before = going_after funcs had.main.now had.index had.registers had.has_halted c.loop-machine.step (search rules) i.after;
-      log = subst (λ step. IsLog funcs c.args.every step log.entries (map seen_by log.seen)) (next c.loop-machine.step) (c.in_ok-take_sample.ensures funcs i.after i.log);
+      log = subst (λ step. IsLog funcs c.args.every step log.schedule (map seen_by log.seen)) (next c.loop-machine.step) (c.in_ok-take_sample.ensures funcs i.after i.log);
     }

@@ -14,7 +14,7 @@ invariant-loop-machine l = record {
   few : l.step ≤ length l.machine.main.now.body;
   after : IsAfter l.fn.program l.machine.main.now l.machine.index l.machine.registers l.machine.has_halted l.step;
   before : IsGoing l.fn.program (l.step - 1);
-  log : IsLog l.fn.program l.fn.every l.step l.log.entries (map seen_by l.log.seen);
+  log : IsLog l.fn.program l.fn.every l.step l.log.schedule (map seen_by l.log.seen);
 }
 
 abbrev pub decreases-loop-machine : goal.decreases-loop-machine
