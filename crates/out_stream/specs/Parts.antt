@@ -1,4 +1,4 @@
--- The parts of a stream that may tell them: the closed ones, and the unfinished one. Each equation says of a stream that does not tell only that it goes on so.
+-- The parts of a stream: the closed ones, and the unfinished one. Where they cannot be observed, each equation says only that this stays so.
 use Rattle.std.specs.Prelude.{ℕ, ◌≡◌, List, [], ◌∷◌, ◌++◌, Option, option_map}
 use Rattle.prof_base.specs.Prefix.{IsPrefix}
 
@@ -14,6 +14,6 @@ grown parts bytes = option_map (λ p. (p.0, p.1 ++ bytes)) parts
 abbrev pub closed : Option Parts → Option Parts
 closed parts = option_map (λ p. (p.0 ++ p.1 ∷ [], [])) parts
 
--- the unfinished part is longer by a front of these bytes
+-- the unfinished part is longer by a prefix of these bytes
 abbrev pub GrowsByPrefix : Option Parts → Option Parts → List ℕ → Type 0
 GrowsByPrefix old new bytes = (part : List ℕ) × IsPrefix part bytes × (new ≡ grown old part)

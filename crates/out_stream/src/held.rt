@@ -7,7 +7,7 @@ use std::alloc::Global;
 use std::mem;
 
 // The parts, and what was offered. Where a part is unfinished there is room to close it and to keep
-// that it was ended.
+// that it ended.
 #[derive(Drop)]
 pub(crate) struct Held {
     alloc: Global,
@@ -68,7 +68,7 @@ impl Held {
         Ok(())
     }
 
-    // Keeps that a chunk of so many bytes was offered and not taken.
+    // Keeps that a chunk of `count` bytes was offered, and its answer. It is not taken.
     pub(crate) fn refuse(&mut self, count: usize, answer: Chunk) -> Result<(), Memory>
         ensures closed { self.new.closed.items ≡ self.old.closed.items }
         ensures unfinished { self.new.unfinished.items ≡ self.old.unfinished.items }

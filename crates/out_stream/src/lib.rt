@@ -12,8 +12,6 @@ mod held;
 pub mod laws;
 mod memory;
 mod stream;
-#[cfg(test)]
-mod tests;
 
 pub use delivery::deliver;
 pub use file::FileStream;

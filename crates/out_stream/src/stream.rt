@@ -24,7 +24,7 @@ pub enum Chunk {
 /// What a stream was offered.
 #[derive(Clone, Copy, Debug, PartialEq, Eq)]
 pub enum Offer {
-    /// A chunk of so many bytes, which got this answer.
+    /// A chunk of `count` bytes, and its answer.
     Bytes { count: usize, answer: Chunk },
     /// The end of the part.
     End,
