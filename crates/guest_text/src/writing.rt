@@ -6,7 +6,7 @@ ghost use Rattle.guest_text.specs.ProgramText.{escaped, escaped_byte, quoted_wor
 use crate::instr::{Func, Instr, Op};
 use crate::program::Program;
 use crate::reg::Reg;
-use prof_base::{FuncId, Memory, Text};
+use prof_base::{FuncId, Memory, Text, put_decimal};
 use std::alloc::{AllocError, Global};
 
 fn put_escaped_byte(out: &mut Vec<u8>, byte: u8) -> Result<(), AllocError>
@@ -37,26 +37,18 @@ fn put_quoted(out: &mut Vec<u8>, text: &Text) -> Result<(), AllocError>
     Ok(())
 }
 
-fn put_decimal(alloc: Global, out: &mut Vec<u8>, number: u64) -> Result<(), AllocError>
-    ensures { OnOk result (out.new.items ≡ out.old.items ++ decimal number) }
-{
-    let digits = format!(in alloc; "{number}")?;
-    out.extend_from_slice(digits.as_str().as_bytes())?;
-    Ok(())
-}
-
-fn put_number(alloc: Global, out: &mut Vec<u8>, number: u64) -> Result<(), AllocError>
+fn put_number(out: &mut Vec<u8>, number: u64) -> Result<(), AllocError>
     ensures { OnOk result (out.new.items ≡ out.old.items ++ number_word number) }
 {
     out.extend_from_slice(b" ")?;
-    put_decimal(alloc, out, number)
+    put_decimal(out, number)
 }
 
-fn put_reg(alloc: Global, out: &mut Vec<u8>, reg: Reg) -> Result<(), AllocError>
+fn put_reg(out: &mut Vec<u8>, reg: Reg) -> Result<(), AllocError>
     ensures { OnOk result (out.new.items ≡ out.old.items ++ reg_word reg) }
 {
     out.extend_from_slice(b" r")?;
-    put_decimal(alloc, out, u64::from(reg.number()))
+    put_decimal(out, u64::from(reg.number()))
 }
 
 fn label(funcs: &[Func], func: FuncId) -> &[u8]
@@ -102,18 +94,18 @@ fn op_name(op: &Op) -> &'static [u8]
     }
 }
 
-fn put_regs(alloc: Global, out: &mut Vec<u8>, to: Reg, from: Reg) -> Result<(), AllocError>
+fn put_regs(out: &mut Vec<u8>, to: Reg, from: Reg) -> Result<(), AllocError>
     ensures { OnOk result (out.new.items ≡ out.old.items ++ (reg_word to ++ reg_word from)) }
 {
-    put_reg(alloc, out, to)?;
-    put_reg(alloc, out, from)
+    put_reg(out, to)?;
+    put_reg(out, from)
 }
 
-fn put_reg_number(alloc: Global, out: &mut Vec<u8>, reg: Reg, number: u64) -> Result<(), AllocError>
+fn put_reg_number(out: &mut Vec<u8>, reg: Reg, number: u64) -> Result<(), AllocError>
     ensures { OnOk result (out.new.items ≡ out.old.items ++ (reg_word reg ++ number_word number)) }
 {
-    put_reg(alloc, out, reg)?;
-    put_number(alloc, out, number)
+    put_reg(out, reg)?;
+    put_number(out, number)
 }
 
 fn put_reason(
@@ -128,58 +120,48 @@ fn put_reason(
     put_quoted(out, reason)
 }
 
-fn put_operands(alloc: Global, out: &mut Vec<u8>, funcs: &[Func], op: &Op) -> Result<(), AllocError>
+fn put_operands(out: &mut Vec<u8>, funcs: &[Func], op: &Op) -> Result<(), AllocError>
     ensures { OnOk result (out.new.items ≡ out.old.items ++ operands funcs.now op.now) }
 {
     match op {
-        Op::Set(reg, number) => put_reg_number(alloc, out, *reg, *number),
-        Op::Add(to, from) => put_regs(alloc, out, *to, *from),
-        Op::Sub(to, from) => put_regs(alloc, out, *to, *from),
-        Op::Mul(to, from) => put_regs(alloc, out, *to, *from),
-        Op::Lt(to, from) => put_regs(alloc, out, *to, *from),
-        Op::Jump(place) => put_number(alloc, out, u64::from(*place)),
-        Op::Jz(reg, place) => put_reg_number(alloc, out, *reg, u64::from(*place)),
+        Op::Set(reg, number) => put_reg_number(out, *reg, *number),
+        Op::Add(to, from) => put_regs(out, *to, *from),
+        Op::Sub(to, from) => put_regs(out, *to, *from),
+        Op::Mul(to, from) => put_regs(out, *to, *from),
+        Op::Lt(to, from) => put_regs(out, *to, *from),
+        Op::Jump(place) => put_number(out, u64::from(*place)),
+        Op::Jz(reg, place) => put_reg_number(out, *reg, u64::from(*place)),
         Op::Call(func) => put_label(out, funcs, *func),
-        Op::Print(reg) => put_reg(alloc, out, *reg),
+        Op::Print(reg) => put_reg(out, *reg),
         Op::Opt(func) => put_label(out, funcs, *func),
         Op::Deopt(func, reason) => put_reason(out, funcs, *func, reason),
         Op::NoOpt(func, reason) => put_reason(out, funcs, *func, reason),
         Op::Drop(func) => put_label(out, funcs, *func),
-        Op::Idle(steps) => put_number(alloc, out, u64::from(*steps)),
-        Op::Native(steps) => put_number(alloc, out, u64::from(*steps)),
-        Op::Collect(steps) => put_number(alloc, out, u64::from(*steps)),
+        Op::Idle(steps) => put_number(out, u64::from(*steps)),
+        Op::Native(steps) => put_number(out, u64::from(*steps)),
+        Op::Collect(steps) => put_number(out, u64::from(*steps)),
         Op::Ret => Ok(()),
         Op::Halt => Ok(()),
         Op::Gc => Ok(()),
     }
 }
 
-fn put_instr(
-    alloc: Global,
-    out: &mut Vec<u8>,
-    funcs: &[Func],
-    instr: &Instr,
-) -> Result<(), AllocError>
+fn put_instr(out: &mut Vec<u8>, funcs: &[Func], instr: &Instr) -> Result<(), AllocError>
     ensures { OnOk result (out.new.items ≡ out.old.items ++ instr_line funcs.now instr.now) }
 {
-    put_decimal(alloc, out, u64::from(instr.line))?;
+    put_decimal(out, u64::from(instr.line))?;
     out.push(b' ')?;
     out.extend_from_slice(op_name(&instr.op))?;
-    put_operands(alloc, out, funcs, &instr.op)?;
+    put_operands(out, funcs, &instr.op)?;
     out.push(b'\n')?;
     Ok(())
 }
 
-fn put_body(
-    alloc: Global,
-    out: &mut Vec<u8>,
-    funcs: &[Func],
-    body: &[Instr],
-) -> Result<(), AllocError>
+fn put_body(out: &mut Vec<u8>, funcs: &[Func], body: &[Instr]) -> Result<(), AllocError>
     ensures { OnOk result (out.new.items ≡ out.old.items ++ flat_map (instr_line funcs.now) body.now) }
 {
     for instr in body {
-        put_instr(alloc, out, funcs, instr)?;
+        put_instr(out, funcs, instr)?;
     }
     Ok(())
 }
@@ -190,26 +172,26 @@ fn inline_word(inline: bool) -> &'static [u8]
     if inline { b" inline" } else { b"" }
 }
 
-fn put_func_line(alloc: Global, out: &mut Vec<u8>, func: &Func) -> Result<(), AllocError>
+fn put_func_line(out: &mut Vec<u8>, func: &Func) -> Result<(), AllocError>
     ensures { OnOk result (out.new.items ≡ out.old.items ++ func_line func.now) }
 {
     out.extend_from_slice(b"func ")?;
     out.extend_from_slice(func.label.bytes())?;
     put_quoted(out, &func.name)?;
     put_quoted(out, &func.url)?;
-    put_number(alloc, out, u64::from(func.script))?;
-    put_number(alloc, out, u64::from(func.line))?;
-    put_number(alloc, out, u64::from(func.column))?;
+    put_number(out, u64::from(func.script))?;
+    put_number(out, u64::from(func.line))?;
+    put_number(out, u64::from(func.column))?;
     out.extend_from_slice(inline_word(func.inline))?;
     out.push(b'\n')?;
     Ok(())
 }
 
-fn put_func(alloc: Global, out: &mut Vec<u8>, funcs: &[Func], func: &Func) -> Result<(), AllocError>
+fn put_func(out: &mut Vec<u8>, funcs: &[Func], func: &Func) -> Result<(), AllocError>
     ensures { OnOk result (out.new.items ≡ out.old.items ++ func_text funcs.now func.now) }
 {
-    put_func_line(alloc, out, func)?;
-    put_body(alloc, out, funcs, func.body.as_slice())
+    put_func_line(out, func)?;
+    put_body(out, funcs, func.body.as_slice())
 }
 
 pub(crate) fn written(alloc: Global, funcs: &[Func]) -> Result<Vec<u8>, AllocError>
@@ -217,7 +199,7 @@ pub(crate) fn written(alloc: Global, funcs: &[Func]) -> Result<Vec<u8>, AllocErr
 {
     let mut out = Vec::new(alloc);
     for func in funcs {
-        put_func(alloc, &mut out, funcs, func)?;
+        put_func(&mut out, funcs, func)?;
     }
     Ok(out)
 }

@@ -2,8 +2,7 @@
 ghost use Rattle.std.specs.Prelude.{◌≡◌, ◌≤◌, ◌∷◌, [], ℕ, ◌↔◌, ◌^◌, ◌<◌, IsTrue, IfOk, OnOk, Some, IfSome, IsErrOf, map, decimal, string_bytes, bytes_eq};
 ghost use Rattle.prof_top.specs.Command.{IsName, IsRun, IsCommand};
 
-use itoa::Buffer;
-use prof_base::{MAX_INTERVAL, Text, TextRefused};
+use prof_base::{MAX_INTERVAL, Text, TextRefused, is_decimal};
 use std::alloc::Global;
 
 /// What `run PROG EVERY` asks for.
@@ -42,20 +41,13 @@ fn name(alloc: Global, word: &[u8]) -> Result<Text, WordsRefused>
     }
 }
 
-// Whether a word is the decimal text of the number.
-fn is_decimal(word: &str, number: u32) -> bool
-    ensures { result ≡ bytes_eq word.now (decimal number) }
-{
-    Buffer::new().format(number).as_bytes() == word.as_bytes()
-}
-
 // The number whose decimal text the word is.
 fn decimal_number(word: &str) -> Option<u32>
     ensures spelled { IfSome result (λ number. word.now ≡ decimal number) }
     ensures only { (number : ℕ) → number < 2 ^ 32 → word.now ≡ decimal number → result ≡ Some number }
 {
     match word.parse::<u32>() {
-        Ok(number) if is_decimal(word, number) => Some(number),
+        Ok(number) if is_decimal(word, u64::from(number)) => Some(number),
         _ => None,
     }
 }
