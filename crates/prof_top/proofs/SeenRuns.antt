@@ -131,7 +131,7 @@ finished_behind number begun (finished at files given ∷ ticks) time reasons al
 pub has_file : (funcs : List Func) (options : Options) (step time : ℕ) (reasons : DeoptReasons) → is_some (recording 1 (seen_before funcs options step ++ finished time true reasons ∷ [])) ≡ true
 has_file funcs options step time reasons =
     let begun : Begun = record { options = options; start = 0; ticks = [] } in
-    let first : ResolvedTick = record { time = 0; interval = 0; hit = false; only = Some (session 1); steps = plain_frames funcs (plain funcs 0) } in
+    let first : ResolvedTick = record { time = 0; interval = 0; hit = false; only = Some (session 1); frames = plain_frames funcs (plain funcs 0) } in
     finished_behind 1 (with_tick 1 first begun) (ticks_before funcs options.interval step) time reasons (ticks_are_ticks funcs options.interval step)
 
 -- the sessions after the start of a run
