@@ -24,7 +24,7 @@ called other = None
 abbrev pub taken_in : List Func → (ℕ → ℕ) → Instr → ℕ
 taken_in funcs size instr = option_map_or (λ number. if is_inline funcs number then size number else 0) (called instr.op) 0
 
--- the slots of the function with this number, where functions are taken in so many deep
+-- the slots of the function with this number, where calls are taken in to the depth deep
 abbrev pub inlined_size : List Func → ℕ → ℕ → ℕ
 inlined_size funcs zero number = length (body_of funcs number)
 inlined_size funcs (suc deep) number = length (body_of funcs number) + sum_by (taken_in funcs (λ other. inlined_size funcs deep other)) (body_of funcs number)

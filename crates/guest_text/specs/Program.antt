@@ -5,6 +5,8 @@ use Rattle.prof_base.specs.Text.{IsText}
 use Rattle.guest_text.specs.declared.instr.Op.{Op}
 use Rattle.guest_text.specs.declared.instr.Op.TheVariants.{Set, Add, Sub, Mul, Lt, Jump, Jz, Call, Ret, Print, Halt, Opt, Deopt, NoOpt, Drop, Gc, Idle, Native, Collect}
 use Rattle.guest_text.specs.declared.instr.Instr.{Instr}
+use Rattle.guest_text.specs.declared.instr.TheConstants.Func.{MAX_BODY}
+use Rattle.guest_text.specs.declared.reg.TheConstants.Reg.{LAST}
 use Rattle.guest_text.specs.declared.instr.Func.{Func}
 
 -- `a` to `z`
@@ -30,22 +32,22 @@ pub record IsLabel (label : List ℕ) : Type 0 where
 abbrev pub IsUpToMillion : ℕ → Type 0
 IsUpToMillion n = (1 ≤ n) × (n ≤ 1000000)
 
--- a place in a body with so many instructions
+-- a place in a body of size instructions
 abbrev pub IsTarget : ℕ → ℕ → Type 0
 IsTarget size place = (place < size) × (place ≤ 4095)
 
--- an operation that fits into a body of so many instructions, in a program of so many functions
+-- an operation that fits into a body of size instructions, in a program of funcs functions
 abbrev pub IsOp : ℕ → ℕ → Op → Type 0
-IsOp funcs size (Set reg number) = (reg ≤ 7) × (number < 2 ^ 64)
-IsOp funcs size (Add to from) = (to ≤ 7) × (from ≤ 7)
-IsOp funcs size (Sub to from) = (to ≤ 7) × (from ≤ 7)
-IsOp funcs size (Mul to from) = (to ≤ 7) × (from ≤ 7)
-IsOp funcs size (Lt to from) = (to ≤ 7) × (from ≤ 7)
+IsOp funcs size (Set reg number) = (reg ≤ LAST) × (number < 2 ^ 64)
+IsOp funcs size (Add to from) = (to ≤ LAST) × (from ≤ LAST)
+IsOp funcs size (Sub to from) = (to ≤ LAST) × (from ≤ LAST)
+IsOp funcs size (Mul to from) = (to ≤ LAST) × (from ≤ LAST)
+IsOp funcs size (Lt to from) = (to ≤ LAST) × (from ≤ LAST)
 IsOp funcs size (Jump place) = IsTarget size place
-IsOp funcs size (Jz reg place) = (reg ≤ 7) × IsTarget size place
+IsOp funcs size (Jz reg place) = (reg ≤ LAST) × IsTarget size place
 IsOp funcs size (Call func) = func.0 < funcs
 IsOp funcs size Ret = Unit {0}
-IsOp funcs size (Print reg) = reg ≤ 7
+IsOp funcs size (Print reg) = reg ≤ LAST
 IsOp funcs size Halt = Unit {0}
 IsOp funcs size (Opt func) = func.0 < funcs
 IsOp funcs size (Deopt func reason) = (func.0 < funcs) × IsText reason
@@ -61,7 +63,7 @@ pub record IsInstr (funcs size : ℕ) (instr : Instr) : Type 0 where
   pub line : IsUpToMillion instr.line
   pub op : IsOp funcs size instr.op
 
--- a function that fits into a program of so many functions
+-- a function that fits into a program of funcs functions
 pub record IsFunc (funcs : ℕ) (func : Func) : Type 0 where
   pub label : IsLabel func.label
   pub name : IsText func.name
@@ -70,7 +72,7 @@ pub record IsFunc (funcs : ℕ) (func : Func) : Type 0 where
   pub line : IsUpToMillion func.line
   pub column : IsUpToMillion func.column
   pub not_empty : 1 ≤ length func.body
-  pub short : length func.body ≤ 4096
+  pub short : length func.body ≤ MAX_BODY
   pub body : AllByRecursion (IsInstr funcs (length func.body)) func.body
 
 -- no two of these are the same

@@ -6,14 +6,14 @@ use Rattle.guest_text.specs.declared.instr.Instr.{Instr}
 use Rattle.guest_text.specs.declared.instr.Func.{Func}
 use Rattle.guest_text.specs.Program.{label_at}
 
--- a byte of a quoted text: `"` and `\` stand behind a `\`
+-- a byte of a quoted text: `"` and `\` are written after a `\`
 abbrev pub escaped_byte : ℕ → List ℕ
 escaped_byte b = if b == 34 || b == 92 then 92 ∷ b ∷ [] else b ∷ []
 
 abbrev pub escaped : List ℕ → List ℕ
 escaped text = flat_map escaped_byte text
 
--- A word stands behind a space: a text in quotes,
+-- A word follows a space: a text in quotes,
 abbrev pub quoted_word : List ℕ → List ℕ
 quoted_word text = codes " \"" ++ escaped text ++ codes "\""
 
@@ -51,7 +51,7 @@ op_name (Idle steps) = codes "idle"
 op_name (Native steps) = codes "native"
 op_name (Collect steps) = codes "collect"
 
--- the words behind an operation's name
+-- the words after an operation's name
 abbrev pub operands : List Func → Op → List ℕ
 operands funcs (Set reg number) = reg_word reg ++ number_word number
 operands funcs (Add to from) = reg_word to ++ reg_word from

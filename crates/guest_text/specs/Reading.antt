@@ -2,6 +2,7 @@
 use Rattle.std.specs.Prelude.{◌≡◌, ℕ, zero, suc, ◌+◌, ◌-◌, ◌*◌, ◌^◌, ◌≤◌, ◌<◌, List, [], ◌∷◌, length, take, drop, Bool, true, false, not, ◌&&◌, ◌||◌, ◌==◌, nat_le, if◌then◌else◌, codes, bytes_eq, Option, Some, None, Result, Ok, Err}
 use Rattle.std.specs.List.{list_all}
 use Rattle.prof_base.specs.Text.{is_printable, IsText}
+use Rattle.prof_base.specs.declared.text.TheConstants.Text.{MAX_LEN}
 use Rattle.guest_text.specs.Program.{IsUpToMillion, IsFunc}
 use Rattle.guest_text.specs.Straight.{ends_in_halt, IsStraight}
 use Rattle.guest_text.specs.declared.refused.ProgramRefused.{ProgramRefused}
@@ -11,6 +12,8 @@ use Rattle.guest_text.specs.declared.refused.LineFault.TheVariants as faults
 use Rattle.guest_text.specs.declared.instr.Op.{Op}
 use Rattle.guest_text.specs.declared.instr.Op.TheVariants.{Set, Halt}
 use Rattle.guest_text.specs.declared.instr.Instr.{Instr}
+use Rattle.guest_text.specs.declared.instr.TheConstants.Func.{MAX_BODY}
+use Rattle.guest_text.specs.declared.reg.TheConstants.Reg.{LAST}
 use Rattle.guest_text.specs.declared.instr.Func.{Func}
 use Rattle.guest_text.specs.declared.line.Head.{Head}
 
@@ -19,7 +22,7 @@ abbrev pub ◌>>=◌ : {A B : Type 0} → Option A → (A → Option B) → Opti
 None >>= next = None
 (Some x) >>= next = next x
 
--- a value, and the bytes behind it
+-- a value, and the bytes after it
 abbrev pub Front : Type 0 → Type 0
 Front A = A × List ℕ
 
@@ -40,7 +43,7 @@ abbrev pub IfAt : ProgramRefused → Type 0 → Type 0
 IfAt (refused.At line cause) Claim = Claim
 IfAt refused.Memory Claim = Unit {0}
 
--- the bytes behind these, with which the text begins
+-- the bytes after lead, where the bytes begin with it
 unfoldable pub behind : List ℕ → List ℕ → Option (List ℕ)
 behind lead bytes =
     if nat_le (length lead) (length bytes) && bytes_eq (take (length lead) bytes) lead
@@ -50,29 +53,29 @@ behind lead bytes =
 abbrev pub is_digit : ℕ → Bool
 is_digit b = nat_le 48 b && nat_le b 57
 
--- the value of the digits in front, behind digits of the value n
+-- the value of digits of the value n and then those that the bytes begin with, and the bytes after them
 abbrev pub digits_from : ℕ → List ℕ → Front ℕ
 digits_from n [] = (n, [])
 digits_from n (b ∷ bytes) = if is_digit b then digits_from (10 * n + (b - 48)) bytes else (n, b ∷ bytes)
 
--- a digit stands in front
+-- the bytes begin with a digit
 abbrev pub begins_with_digit : List ℕ → Bool
 begins_with_digit [] = false
 begins_with_digit (b ∷ bytes) = is_digit b
 
--- a number stands in front: a digit, which is no `0` where another follows
+-- the bytes begin with a number: with a digit other than a `0` that another digit follows
 abbrev pub begins_with_number : List ℕ → Bool
 begins_with_number [] = false
 begins_with_number (b ∷ bytes) = is_digit b && not (b == 48 && begins_with_digit bytes)
 
--- the number in front, where it is in a range
+-- the number that the bytes begin with, where it is in a range
 unfoldable pub number_at : ℕ → ℕ → List ℕ → Option (Front ℕ)
 number_at least most bytes =
     if begins_with_number bytes && (nat_le least (digits_from 0 bytes).0 && nat_le (digits_from 0 bytes).0 most)
     then Some (digits_from 0 bytes)
     else None
 
--- a byte in front of a text that is read
+-- a byte before a text that is read
 abbrev pub onto_text : ℕ → Option (Front (List ℕ)) → Option (Front (List ℕ))
 onto_text b None = None
 onto_text b (Some text) = Some (b ∷ text.0, text.1)
@@ -92,16 +95,16 @@ unquoted meant (b ∷ bytes) =
 
 -- the bytes, where they are a text
 unfoldable pub checked_text : List ℕ → Option (List ℕ)
-checked_text bytes = if nat_le (length bytes) 200 && list_all is_printable bytes then Some bytes else None
+checked_text bytes = if nat_le (length bytes) MAX_LEN && list_all is_printable bytes then Some bytes else None
 
--- the text in front, behind its first `"`
+-- the text after its opening `"`
 unfoldable pub text_at : List ℕ → Option (Front (List ℕ))
 text_at bytes = do
   raw ← unquoted false bytes
   text ← checked_text raw.0
   Some (text, raw.1)
 
--- what lies behind these bytes and the text in front
+-- the text in quotes after lead, whose last byte is the opening `"`
 unfoldable pub quoted_at : List ℕ → List ℕ → Option (Front (List ℕ))
 quoted_at lead bytes = do
   rest ← behind lead bytes
@@ -132,7 +135,7 @@ head_at bytes = do
 -- a register and a number
 unfoldable pub set_at : List ℕ → Option (Front Op)
 set_at bytes = do
-  reg ← number_at 0 7 bytes
+  reg ← number_at 0 LAST bytes
   number ← word_at 0 (2 ^ 64 - 1) reg.1
   rest ← behind (codes "\n") number.1
   Some (Set reg.0 number.0, rest)
@@ -154,7 +157,7 @@ instr_at bytes = do
   op ← op_at line.1
   Some (record { line = line.0; op = op.0 }, op.1)
 
--- the lines that are left, of which there may be so many
+-- the instructions of the lines that are left, at most room of them
 unfoldable pub body_at : ℕ → List ℕ → Option (List Instr)
 body_at zero bytes = if length bytes == 0 then Some [] else None
 body_at (suc room) bytes = if length bytes == 0 then Some [] else (instr_at bytes >>= λ instr. body_at room instr.1 >>= λ body. Some (instr.0 ∷ body))
@@ -176,7 +179,7 @@ func_of head body =
 unfoldable pub func_at : List ℕ → Option Func
 func_at bytes = do
   head ← head_at bytes
-  body ← body_at 4096 head.1
+  body ← body_at MAX_BODY head.1
   if ends_in_halt body then Some (func_of head.0 body) else None
 
 -- a function that can stand alone
@@ -194,7 +197,7 @@ pub record IsHead (head : Head) : Type 0 where
   pub column : IsUpToMillion head.column
 
 abbrev pub IsReadOp : Op → Type 0
-IsReadOp (Set reg number) = (reg ≤ 7) × (number < 2 ^ 64)
+IsReadOp (Set reg number) = (reg ≤ LAST) × (number < 2 ^ 64)
 IsReadOp Halt = Unit {0}
 IsReadOp other = ⊥
 

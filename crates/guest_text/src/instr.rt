@@ -38,11 +38,11 @@ pub enum Op {
     Drop(FuncId),
     /// Compacts the code.
     Gc,
-    /// Waits for so many steps, from 1 to 1,000,000.
+    /// Waits for this number of steps, from 1 to 1,000,000.
     Idle(u32),
-    /// Is in native code for so many steps, from 1 to 1,000,000.
+    /// Is in native code for this number of steps, from 1 to 1,000,000.
     Native(u32),
-    /// Collects garbage for so many steps, from 1 to 1,000,000.
+    /// Collects garbage for this number of steps, from 1 to 1,000,000.
     Collect(u32),
 }
 
@@ -76,4 +76,9 @@ pub struct Func {
     pub inline: bool,
     /// Its instructions, 1 to 4,096.
     pub body: Sequence<Instr>,
+}
+
+impl Func {
+    /// The greatest number of instructions.
+    pub const MAX_BODY: u32 = 4096;
 }

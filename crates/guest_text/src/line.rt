@@ -64,7 +64,7 @@ fn set(bytes: &[u8]) -> Option<(Op, &[u8])>
     ensures op { option_map (λ x. (x.0, x.1.now)) result ≡ set_at bytes.now }
     ensures fits { IfSome result (λ x. IsReadOp x.0) }
 {
-    let (reg, rest) = number(bytes, 0, 7)?;
+    let (reg, rest) = number(bytes, 0, u64::from(Reg::LAST))?;
     let (number, rest) = number_word(rest, 0, u64::MAX)?;
     let rest = behind(b"\n", rest)?;
     Some((Op::Set(Reg::new(reg as u8), number), rest))

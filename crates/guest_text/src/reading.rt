@@ -14,11 +14,9 @@ use crate::writing::write_program;
 use prof_base::{Sequence, Text, TextRefused};
 use std::alloc::{AllocError, Global};
 
-const MOST_INSTRS: u32 = 4096;
-
-// The instructions of the lines, of which there may be so many. The first of them is line 2.
+// The instructions of the lines, at most `room` of them. The first is line 2.
 fn body(alloc: Global, room: u32, bytes: &[u8]) -> Result<Sequence<Instr>, ProgramRefused>
-    requires { room ≤ 4096 }
+    requires { room ≤ Func.MAX_BODY }
     ensures body { Reads result (body_at room bytes.now) }
     ensures each { IfOk result (λ body. AllByRecursion IsReadInstr body) }
     ensures short { IfOk result (λ body. length body ≤ room) }
@@ -46,7 +44,7 @@ fn body(alloc: Global, room: u32, bytes: &[u8]) -> Result<Sequence<Instr>, Progr
         Ok(body)
     } else {
         Err(ProgramRefused::At {
-            line: line_behind(body.as_slice()),
+            line: line_after(body.as_slice()),
             cause: ProgramCause::Word,
         })
     }
@@ -61,15 +59,16 @@ fn ends_in_halt(body: &[Instr]) -> bool
     }
 }
 
-// The line behind the body; its last one, where no line may follow that and it is no halt.
-fn line_behind(body: &[Instr]) -> u32
-    requires { length body.now ≤ 4096 }
+// The line after the body. After a full body that does not end in `halt` it is the last line of the
+// body, since no line may follow.
+fn line_after(body: &[Instr]) -> u32
+    requires { length body.now ≤ Func.MAX_BODY }
 {
-    let behind = body.len() as u32 + 2;
-    if behind == MOST_INSTRS + 2 && !ends_in_halt(body) {
-        behind - 1
+    let after = body.len() as u32 + 2;
+    if after == Func::MAX_BODY + 2 && !ends_in_halt(body) {
+        after - 1
     } else {
-        behind
+        after
     }
 }
 
@@ -114,12 +113,12 @@ fn func(alloc: Global, text: &[u8]) -> Result<Func, ProgramRefused>
 {
     match first_line(alloc, text) {
         Ok((head, rest)) => {
-            let body = body(alloc, MOST_INSTRS, rest)?;
+            let body = body(alloc, Func::MAX_BODY, rest)?;
             if ends_in_halt(body.as_slice()) {
                 Ok(main_func(alloc, head, body)?)
             } else {
                 Err(ProgramRefused::At {
-                    line: line_behind(body.as_slice()),
+                    line: line_after(body.as_slice()),
                     cause: ProgramCause::Word,
                 })
             }
@@ -142,7 +141,7 @@ fn lone(alloc: Global, func: Func) -> Result<Program, AllocError>
     Ok(Program::new(functions, 0))
 }
 
-// The program that is read. How it is spelled is not said here.
+// Reads a program. How the text is spelled is not said here.
 fn program(alloc: Global, text: &[u8]) -> Result<Program, ProgramRefused>
     ensures straight { IfOk result (λ program. IsStraight program) }
     ensures rules { IfOk result (λ program. IsProgram program) }
@@ -153,7 +152,7 @@ fn program(alloc: Global, text: &[u8]) -> Result<Program, ProgramRefused>
     Ok(lone(alloc, func)?)
 }
 
-// Where a text first differs from the canonical one, of which it is no copy.
+// The refusal at the line where a text first differs from the canonical one.
 fn difference(text: &[u8], canonical: &[u8]) -> ProgramRefused {
     let mut line = 1u32;
     for (byte, wanted) in text.iter().zip(canonical.iter()) {
@@ -179,7 +178,7 @@ fn difference(text: &[u8], canonical: &[u8]) -> ProgramRefused {
 /// # Errors
 ///
 /// `At` where the text is none of these, with the first line that differs from them and the cause
-/// `Word`. `Memory` where memory was refused.
+/// `Word`. `Memory` when out of memory.
 pub fn read_program(alloc: Global, text: &[u8]) -> Result<Program, ProgramRefused>
     ensures straight { IfOk result (λ program. IsStraight program) }
     ensures rules { IfOk result (λ program. IsProgram program) }

@@ -24,9 +24,9 @@ pub enum ProgramCause {
 #[derive(Clone, Copy, Debug, PartialEq, Eq)]
 pub enum ProgramRefused {
     /// The line `line`, counted from 1, is the first that differs from the texts that can be read.
-    /// It is the number of lines plus 1 where the fault lies behind the last one.
+    /// It is the number of lines plus 1 if the fault is after the last one.
     At { line: u32, cause: ProgramCause },
-    /// Memory was refused.
+    /// Out of memory.
     Memory,
 }
 

@@ -11,20 +11,24 @@ pub struct Reg {
 
 impl Model for Reg {
     ghost use Rattle.std.specs.Prelude.{ℕ, ◌≤◌};
+    ghost use Rattle.guest_text.specs.declared.reg.TheConstants.Reg.{LAST};
 
     ghost Value = { ℕ };
 
     ghost view = { λ r. r.number };
 
-    ghost invariant = { λ r. r.number ≤ 7 };
+    ghost invariant = { λ r. r.number ≤ LAST };
 
     ghost inverse = { λ n. record { number = n } };
 }
 
 impl Reg {
+    /// The number of the last register.
+    pub const LAST: u8 = 7;
+
     /// The register with this number, from 0 to 7.
     pub fn new(number: u8) -> Reg
-        requires { number ≤ 7 }
+        requires { number ≤ Reg.LAST }
         ensures { result ≡ number }
     {
         Reg { number }
@@ -33,7 +37,7 @@ impl Reg {
     /// The register's number, from 0 to 7.
     pub fn number(self) -> u8
         ensures value { result ≡ self }
-        ensures bound { result ≤ 7 }
+        ensures bound { result ≤ Reg.LAST }
     {
         self.number
     }

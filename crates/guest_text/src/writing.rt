@@ -154,7 +154,7 @@ fn put_operands(alloc: Global, out: &mut Vec<u8>, funcs: &[Func], op: &Op) -> Re
     }
 }
 
-pub(crate) fn put_instr(
+fn put_instr(
     alloc: Global,
     out: &mut Vec<u8>,
     funcs: &[Func],
@@ -212,7 +212,7 @@ fn put_func(alloc: Global, out: &mut Vec<u8>, funcs: &[Func], func: &Func) -> Re
     put_body(alloc, out, funcs, func.body.as_slice())
 }
 
-fn written(alloc: Global, funcs: &[Func]) -> Result<Vec<u8>, AllocError>
+pub(crate) fn written(alloc: Global, funcs: &[Func]) -> Result<Vec<u8>, AllocError>
     ensures { IfOk result (λ text. text.items ≡ program_text funcs.now) }
 {
     let mut out = Vec::new(alloc);

@@ -65,5 +65,5 @@ source_stays_small source r next g some small = omega (arith, le_of_dvd some g.1
 -- the next of the intervals has come
 pub source_of_next : (base i source r next : ℕ) (intervals : List ℕ) → i < length intervals → IsSourceInterval base (take i intervals) source → IsGcd source r next → r ≡ rounded_of base (get_or intervals i 0) → IsSourceInterval base (take (i + 1) intervals) next
 source_of_next base i source r next intervals within s g e =
-    let P : List ℕ → Type 0 = λ front. IsSourceInterval base front next in
+    let P : List ℕ → Type 0 = λ prefix. IsSourceInterval base prefix next in
     subst P (sym (take_more intervals i 0 within)) (source_of_more base (get_or intervals i 0) source next (take i intervals) s (subst (λ (x : ℕ). IsGcd source x next) e g))

@@ -1,6 +1,6 @@
 -- When an answer that names a fault may come.
 use Rattle.std.specs.Prelude.{ℕ, ◌+◌, ◌-◌, ◌^◌, ◌≤◌, min}
 
--- a count rose, or stands still at the last value of a u64
+-- a count rose, or stays at the greatest value of a u64
 abbrev pub Rose : ℕ → ℕ → Type 0
 Rose before now = min (before + 1) (2 ^ 64 - 1) ≤ now

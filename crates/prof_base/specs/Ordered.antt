@@ -1,4 +1,4 @@
--- Sets as lists that rise in an order, where each element stands once; and the places of their elements.
+-- Sets as lists that rise in an order, in which each element occurs once; and the places of their elements.
 use Rattle.std.specs.Prelude.{◌≡◌, ℕ, zero, suc, List, [], ◌∷◌, Bool, ◌||◌, cond, count_by}
 use Rattle.std.specs.List.{AllByRecursion}
 use Rattle.std.specs.declared.cmp.Ordering.{Ordering}

@@ -1,6 +1,6 @@
--- Fronts of lists.
+-- Prefixes of lists.
 use Rattle.std.specs.Prelude.{◌≡◌, List, ◌++◌}
 
--- the list begins with this part
+-- the list whole begins with part
 abbrev pub IsPrefix : {A : Type 0} → List A → List A → Type 0
 IsPrefix {A} part whole = (rest : List A) × (whole ≡ part ++ rest)

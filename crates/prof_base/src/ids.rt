@@ -32,10 +32,10 @@ impl Model for Micros {
 }
 
 impl Micros {
-    /// The latest time that there is.
+    /// The latest time.
     pub const MAX: u64 = 0x1f_ffff_ffff_ffff;
 
-    /// The time that lies so many microseconds after the clock's start.
+    /// The time `value` microseconds after the clock's start.
     pub fn new(value: u64) -> Micros
         requires { value ≤ Micros.MAX }
         ensures { result ≡ value }

@@ -1,8 +1,8 @@
-// Want of memory.
+// Out of memory.
 use std::alloc::{AllocError, AllocFailed};
 
-/// Memory was asked for and refused. It is the one answer that may come at any call that takes
-/// memory, whatever its arguments.
+/// Out of memory. It is the one answer that may come at any call that takes memory, whatever its
+/// arguments.
 #[derive(Clone, Copy, Debug, PartialEq, Eq)]
 pub struct Memory;
 

@@ -76,8 +76,8 @@ impl<T> Sequence<T> {
 }
 
 impl<T: Drop> Sequence<T> {
-    /// Adds an element at the end. Where memory is refused, the list is unchanged and the element
-    /// is dropped.
+    /// Adds an element at the end. When out of memory, it leaves the list unchanged and drops the
+    /// element.
     pub fn push(&mut self, item: T) -> Result<(), Memory>
         ensures ok { OnOk result (self.new ≡ self.old ++ item ∷ []) }
         ensures err { OnErr result (self.new ≡ self.old) }

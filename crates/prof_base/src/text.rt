@@ -18,7 +18,7 @@ pub enum TextRefused {
     /// There are at most 200 bytes, and the one at `at`, counted from 0, is the first that is not
     /// printable ASCII.
     NotPrintable { at: usize },
-    /// Memory was refused.
+    /// Out of memory.
     Memory,
 }
 

@@ -1,0 +1,12 @@
+// Facts of the types, each the contract of a function that does nothing.
+ghost use Rattle.std.specs.Prelude.{◌≡◌};
+
+use crate::instr::Func;
+use crate::reg::Reg;
+
+/// The limits that contracts cite by name: the number of the last register, and the length of the
+/// longest body.
+pub fn limits()
+    ensures register { Reg.LAST ≡ 7 }
+    ensures body { Func.MAX_BODY ≡ 4096 }
+{}
