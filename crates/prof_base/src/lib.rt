@@ -1,7 +1,8 @@
 //! Values that every layer names: short printable texts, identifiers, times, lists that contracts
-//! see as lists, sampling intervals, and the answer for out of memory.
+//! see as lists, sampling intervals, numbers in decimal, and the answer for out of memory.
 #![tactic(auto)]
 
+mod decimal;
 mod ids;
 mod interval;
 pub mod laws;
@@ -9,6 +10,7 @@ mod memory;
 mod sequence;
 mod text;
 
+pub use decimal::put_decimal;
 pub use ids::{FuncId, Micros, SessionId};
 pub use interval::{MAX_INTERVAL, MAX_ROUNDED, gcd, rounded, source_interval};
 pub use memory::Memory;
