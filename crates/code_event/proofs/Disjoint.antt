@@ -1,5 +1,6 @@
 -- Code objects that share no address: what keeps them so.
 use Rattle.std.proofs.Common.{◌≡◌, ℕ, ◌+◌, List, [], ◌∷◌, ◌++◌, refl, ap, arith}
+use Rattle.std.proofs.lemmas.Bool.{not-true}
 use Rattle.std.proofs.lemmas.Bool.Decides.{nat_tests}
 use Rattle.std.specs.Prelude.{Bool, true, false, not, cond, filter, ◌&&◌, nat_lt, nat_le, Option, Some, None, ◌==◌}
 use Rattle.std.specs.List.{AllByRecursion}
@@ -12,10 +13,6 @@ use Rattle.code_event.specs.Symbolizer.{holds}
 use Rattle.code_event.specs.declared.event.CodeEvent.{CodeEvent}
 use Rattle.code_event.specs.declared.event.CodeEvent.TheVariants.{Create, Move, NoOpt, Deopt, Delete, Start, Stop, Finish}
 use Rattle.code_event.specs.declared.code_map.Range.{Range}
-
-untrue : (b : Bool) → not b ≡ true → b ≡ false
-untrue true e = absurd (cc)
-untrue false e = refl
 
 disjoint_if : (range : Range) (others : List Range) (b : Bool) → AllByRecursion (λ other. meets range other ≡ false) others → AreDisjoint others → AreDisjoint (cond b (range ∷ others) others)
 disjoint_if range others true apart disjoint = (apart, disjoint)
@@ -36,7 +33,7 @@ disjoint_pushed (range ∷ ranges) new disjoint apart = (all_pushed _ ranges new
 disjoint_with : (ranges : List Range) (new : Range) → AreDisjoint ranges → AreDisjoint (with_range ranges new)
 disjoint_with ranges new disjoint =
     disjoint_pushed (filter (λ r. not (meets r new)) ranges) new (disjoint_filtered (λ r. not (meets r new)) ranges disjoint)
-    (all_mapped (λ r. not (meets r new) ≡ true) (λ r. meets r new ≡ false) _ (λ r. untrue (meets r new)) (all_pass (λ r. not (meets r new)) ranges))
+    (all_mapped (λ r. not (meets r new) ≡ true) (λ r. meets r new ≡ false) _ (λ r. not-true (meets r new)) (all_pass (λ r. not (meets r new)) ranges))
 
 disjoint_moved : (ranges : List Range) (from to : ℕ) (moved : Option Range) → AreDisjoint ranges → AreDisjoint (option_map_or (λ r. with_range (without_range ranges from) (range_of to r.layout)) moved ranges)
 disjoint_moved ranges from to None disjoint = disjoint
@@ -74,7 +71,7 @@ within_one address start size other_start other_size apart inside = grind (arith
 
 -- an address of a range is in none that it does not meet
 held_once : (address : ℕ) (one other : Range) → not (meets one other) ≡ true → holds address one ≡ true → holds address other ≡ false
-held_once address one other apart inside = within_one address one.start one.size other.start other.size (untrue (meets one other) apart) inside
+held_once address one other apart inside = within_one address one.start one.size other.start other.size (not-true (meets one other) apart) inside
 
 apart_in_order : (ranges : List Range) → AreDisjoint ranges → IsRising (λ one other. not (meets one other)) ranges
 apart_in_order [] disjoint = tt

@@ -3,7 +3,7 @@ use Rattle.std.proofs.Common.{◌≡◌, List, [], ◌∷◌, ◌++◌, refl}
 use Rattle.std.specs.Prelude.{Bool, true, false, cond, filter}
 use Rattle.std.specs.List.{AllByRecursion}
 
--- one more element in front, where it is kept
+-- one more element at the start, where it is kept
 pub all_if : {X : Type 0} (P : X → Type 0) (x : X) (xs : List X) (b : Bool) → (b ≡ true → P x) → AllByRecursion P xs → AllByRecursion P (cond b (x ∷ xs) xs)
 all_if P x xs true first all = (first refl, all)
 all_if P x xs false first all = all

@@ -7,6 +7,5 @@ pub mod TreeChildren
 pub mod TreeHits
 pub mod TreeIds
 pub mod TreeNodes
-pub mod TreeOrder
 pub mod TreeParents
 pub mod TreePaths

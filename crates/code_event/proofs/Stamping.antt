@@ -1,4 +1,4 @@
--- Lists with their stamps, and that these are told by the rest.
+-- Lists with their stamps, and that the rest of a list determines these.
 use Rattle.std.proofs.Common.{◌≡◌, ℕ, suc, List, [], ◌∷◌, refl, sym, ◌∙◌}
 use Rattle.code_event.specs.ItemList.{stamped_behind, IsStampedBehind}
 use Rattle.code_event.specs.Laws.{StampingGivesStamps, StampingKeepsStamped, StampedListsAreOne}

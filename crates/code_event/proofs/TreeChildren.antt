@@ -3,27 +3,21 @@ use Rattle.std.proofs.Common.{◌≡◌, ◌≢◌, suc, ◌-◌, List, [], ◌�
 use Rattle.std.specs.Prelude.{IsPermutation, flat_map, filter}
 use Rattle.std.specs.List.{slice_get}
 use Rattle.std.specs.Cmp.{IsTotalOrder}
+use Rattle.std.proofs.lemmas.Bool.{both_ways, not-true, not_from_false, false_from_ne_true}
 use Rattle.std.proofs.lemmas.Cmp.{tied_itself}
 use Rattle.std.proofs.lemmas.List.{map-append}
 use Rattle.std.proofs.lemmas.List.Folds.{flat_map-map}
 use Rattle.std.proofs.lemmas.List.Sorted.{IsPermutation-refl, IsPermutation-sym, IsPermutation-trans, IsPermutation-append_right, IsPermutation-filter_both, IsPermutation-map}
 use Rattle.code_event.specs.DeoptReasons.{DeoptReasons}
 use Rattle.code_event.specs.Tree.{path_cmp, nodes, id_of, is_below, same_path, children, fin_node, fin_nodes}
-use Rattle.code_event.specs.TreeLaws.{numbers_from}
+use Rattle.prof_base.specs.Ordered.{Rises, numbers_from}
 use Rattle.code_event.specs.declared.path.PathStep.{PathStep}
 use Rattle.code_event.specs.declared.visit.Visit.{Visit}
-use Rattle.code_event.proofs.TreeOrder.{Has, has_from_contains, contains_from_has, Rises, after_has, places_number}
+use Rattle.prof_base.proofs.Ordered.{Has, has_from_contains, contains_from_has, after_has, places_number}
 use Rattle.code_event.proofs.TreeIds.{path_total, nodes_rise}
-use Rattle.code_event.proofs.TreePaths.{parent_is_front}
+use Rattle.code_event.proofs.TreePaths.{parent_is_prefix}
 use Rattle.code_event.proofs.TreeNodes.{root_first}
 use Rattle.code_event.proofs.TreeParents.{one_parent}
-
-is_not : (b : Bool) → (b ≡ true → ⊥) → not b ≡ true
-is_not true h = absurd (h refl)
-is_not false h = refl
-
-not_both : (b : Bool) → b ≡ true → not b ≡ true → ⊥
-not_both b h n = true≢false (sym n ∙ ap not h)
 
 -- what equal functions give
 flat_map_same : {A B : Type 0} (f g : A → List B) (xs : List A) → ((x : A) → f x ≡ g x) → flat_map f xs ≡ flat_map g xs
@@ -61,7 +55,7 @@ module _ {K : Type 0} where
     differs : (p q : K) → R p q ≡ Less → p ≡ q → ⊥
     differs p q less e = true≢false (ap is_lt (sym less ∙ ap (λ z. R p z) (sym e) ∙ tied_itself o p))
 
-    -- what stands below just one of some, taken together
+    -- what is below just one of some, taken together
     parted : (ps : List K) → Rises R ps → (xs : List K) → ((x : K) → Has xs x → (p : K) × Has ps p × (below p x ≡ true)) → IsPermutation (flat_map (λ p. filter (below p) xs) ps) xs
     parted [] rises [] h = IsPermutation-refl []
     parted [] rises (x ∷ xs) h = absurd (h x (inl refl)).1
@@ -73,12 +67,12 @@ module _ {K : Type 0} where
         let kept = kept_has test xs x has in
         let found = h x kept.0 in
         elim found.1 [
-          | inl same ↦ absurd (not_both (below p x) (ap (λ q. below q x) same ∙ found.2) kept.1)
+          | inl same ↦ absurd (both_ways (below p x) (not-true (below p x) kept.1) (ap (λ q. below q x) same ∙ found.2))
           | inr more ↦ (found.0, more, found.2)
         ]) in
         let same : flat_map (λ q. filter (below q) others) ps ≡ flat_map (λ q. filter (below q) xs) ps =
         flat_map_alike (λ q. filter (below q) others) (λ q. filter (below q) xs) ps
-        (λ q has. filter_kept test (below q) xs (λ x there yes. is_not (below p x) (λ too. differs p q (after_has R p q ps rises.0 has) (only p q x too yes)))) in
+        (λ q has. filter_kept test (below q) xs (λ x there yes. not_from_false (below p x) (false_from_ne_true (below p x) (λ too. differs p q (after_has R p q ps rises.0 has) (only p q x too yes))))) in
         IsPermutation-trans (under ++ flat_map (λ q. filter (below q) xs) ps) (under ++ others) xs
         (subst (λ l. IsPermutation (under ++ l) (under ++ others)) same
         (IsPermutation-append_right under (flat_map (λ q. filter (below q) others) ps) others (parted ps rises.1 others over)))
@@ -90,7 +84,7 @@ root_is_no_child : (parent : List PathStep) → is_below parent [] ≡ false
 root_is_no_child parent = ap (λ b. b && same_path (take (length parent) []) parent) (ne_eqb 0 (suc (length parent)) (omega arith))
 
 one_above : (p q node : List PathStep) → is_below p node ≡ true → is_below q node ≡ true → p ≡ q
-one_above p q node h g = parent_is_front p node h ∙ sym (parent_is_front q node g)
+one_above p q node h g = parent_is_prefix p node h ∙ sym (parent_is_prefix q node g)
 
 children_number : (rest : List (List PathStep)) → Rises path_cmp ([] ∷ rest)
     → ((node : List PathStep) → Has rest node → (p : List PathStep) × Has ([] ∷ rest) p × (is_below p node ≡ true))

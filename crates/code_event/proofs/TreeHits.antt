@@ -1,27 +1,27 @@
 -- The hits of a tree: each is of just one node, and at just one line.
-use Rattle.std.proofs.Common.{◌≡◌, ℕ, ◌+◌, List, [], ◌∷◌, map, cond, inl, inr, ◌&&◌, Bool, true, false, eqb, ltb, ltb-false, true≢false, Ordering, Less, Equal, Greater, is_lt, is_eq, refl, sym, ap, ap₂, ◌∙◌, subst, arith}
+use Rattle.std.proofs.Common.{◌≡◌, ℕ, ◌+◌, List, [], ◌∷◌, map, cond, inl, inr, ◌&&◌, Bool, true, false, eqb, ltb, ltb-false, Ordering, Less, Equal, Greater, is_eq, refl, sym, ap, ap₂, ◌∙◌, subst, arith}
 use Rattle.std.specs.Prelude.{count_by}
 use Rattle.std.specs.List.{sum_by}
 use Rattle.std.specs.Ordering.{nat_cmp, ordering_reverse}
 use Rattle.std.specs.Cmp.{IsTotalOrder}
 use Rattle.std.proofs.lemmas.Cmp.{tied_itself, nat_cmp_total}
 use Rattle.std.proofs.lemmas.List.Sums.{sum_by-cons}
+use Rattle.std.proofs.lemmas.Bool.{and_parts, cond_both}
 use Rattle.std.proofs.lemmas.Bool.Decides.{nat_tests}
 use Rattle.std.proofs.lemmas.Map.Lookups.{exact_unsigned}
 use Rattle.code_event.specs.declared.path.PathStep.{PathStep}
 use Rattle.code_event.specs.declared.visit.Visit.{Visit}
 use Rattle.code_event.specs.declared.profile.LineTicks.{LineTicks}
 use Rattle.code_event.specs.DeoptReasons.{DeoptReasons}
-use Rattle.code_event.specs.Tree.{path_cmp, same_path, nodes, hits_node, hits, hits_at, with_number, hit_lines, line_ticks, fin_node, fin_nodes}
-use Rattle.code_event.proofs.TreeOrder.{Has, AllAfter, Rises, after_has, put, put_rises, put_has, put_keeps, after_put}
+use Rattle.code_event.specs.Tree.{path_cmp, same_path, nodes, hits_node, hits, hits_at, hit_lines, line_ticks, fin_node, fin_nodes}
+use Rattle.prof_base.specs.Ordered.{insert_sorted, AllAfter, Rises}
+use Rattle.prof_base.proofs.Ordered.{Has, after_has, put_rises, put_has, put_keeps, after_put}
+use Rattle.code_event.proofs.Counts.{count_cons}
 use Rattle.code_event.proofs.TreeIds.{path_total, nodes_rise}
 use Rattle.code_event.proofs.TreeNodes.{path_stands}
 
 abbrev one_if : Bool → ℕ
 one_if b = cond b 1 0
-
-count-cons : {A : Type 0} (test : A → Bool) (x : A) (xs : List A) → count_by test (x ∷ xs) ≡ one_if (test x) + count_by test xs
-count-cons test x xs = sum_by-cons (λ y. cond (test y) 1 0) x xs
 
 sum_by-zero : {A : Type 0} (xs : List A) → sum_by (λ x. 0) xs ≡ 0
 sum_by-zero [] = refl
@@ -39,15 +39,15 @@ module _ {K : Type 0} (R : K → K → Ordering) (o : IsTotalOrder R) (E : K →
   none_equal : (p x : K) (ys : List K) → R p x ≡ Equal → AllAfter R x ys → count_by (E p) ys ≡ 0
   none_equal p x [] e all = refl
   none_equal p x (y ∷ ys) e all =
-      count-cons (E p) y ys ∙ ap₂ (λ b n. one_if b + n) (same p y ∙ ap is_eq (o.congr p x y e ∙ all.0)) (none_equal p x ys e all.1)
+      count_cons (E p) y ys ∙ ap₂ (λ b n. one_if b + n) (same p y ∙ ap is_eq (o.congr p x y e ∙ all.0)) (none_equal p x ys e all.1)
 
   one_equal : (p : K) (ys : List K) → Rises R ys → Has ys p → count_by (E p) ys ≡ 1
   one_equal p [] rises h = absurd h
   one_equal p (y ∷ ys) rises (inl e) =
       let tied : R p y ≡ Equal = ap (λ z. R p z) e ∙ tied_itself o p in
-      count-cons (E p) y ys ∙ ap₂ (λ b n. one_if b + n) (same p y ∙ ap is_eq tied) (none_equal p y ys tied rises.0)
+      count_cons (E p) y ys ∙ ap₂ (λ b n. one_if b + n) (same p y ∙ ap is_eq tied) (none_equal p y ys tied rises.0)
   one_equal p (y ∷ ys) rises (inr h) =
-      count-cons (E p) y ys
+      count_cons (E p) y ys
       ∙ ap₂ (λ b n. one_if b + n) (same p y ∙ ap is_eq (o.antisymm p y ∙ ap ordering_reverse (after_has R y p ys rises.0 h))) (one_equal p ys rises.1 h)
 
   share : (ns : List K) → Rises R ns → (b : Bool) (p : K) → (b ≡ true → Has ns p) → sum_by (λ n. one_if (b && E p n)) ns ≡ one_if b
@@ -59,10 +59,10 @@ module _ {K : Type 0} (R : K → K → Ordering) (o : IsTotalOrder R) (E : K →
       → sum_by (λ n. count_by (λ v. test v && E (key v) n) vs) ns ≡ count_by test vs
   counted_once test key ns rises [] all = sum_by-zero ns
   counted_once test key ns rises (v ∷ vs) all =
-      (λ i. sum_by (λ n. count-cons (λ v. test v && E (key v) n) v vs i) ns)
+      (λ i. sum_by (λ n. count_cons (λ v. test v && E (key v) n) v vs i) ns)
       ∙ sum_by-plus (λ n. one_if (test v && E (key v) n)) (λ n. count_by (λ v. test v && E (key v) n) vs) ns
       ∙ ap₂ (λ m n. m + n) (share ns rises (test v) (key v) (all v (inl refl))) (counted_once test key ns rises vs (λ w h. all w (inr h)))
-      ∙ sym (count-cons test v vs)
+      ∙ sym (count_cons test v vs)
 
 pub hits_counted_once : (visits : List Visit) (reasons : DeoptReasons) → sum_by (λ node. node.hits) (fin_nodes visits reasons) ≡ count_by (λ visit. visit.hit) visits
 hits_counted_once visits reasons =
@@ -72,25 +72,6 @@ hits_counted_once visits reasons =
 
 -- ---- lines
 
-choose : (a b : Bool) (x y z : List ℕ) → cond a x (cond b y z) ≡ cond (is_lt (cond a Less (cond b Equal Greater))) x (cond (is_eq (cond a Less (cond b Equal Greater))) y z)
-choose true b x y z = refl
-choose false true x y z = refl
-choose false false x y z = refl
-
-with_number_puts : (n : ℕ) (ms : List ℕ) → with_number n ms ≡ put nat_cmp n ms
-with_number_puts n [] = refl
-with_number_puts n (m ∷ ms) =
-    ap (λ l. cond (ltb n m) (n ∷ m ∷ ms) (cond (eqb n m) (m ∷ ms) (m ∷ l))) (with_number_puts n ms)
-    ∙ choose (ltb n m) (eqb n m) (n ∷ m ∷ ms) (m ∷ ms) (m ∷ put nat_cmp n ms)
-
-by_test : (P : List ℕ → Type 0) (b : Bool) (x y : List ℕ) → (b ≡ true → P x) → (b ≡ false → P y) → P (cond b x y)
-by_test P true x y p q = p refl
-by_test P false x y p q = q refl
-
-second_true : (a b : Bool) → (a && b) ≡ true → b ≡ true
-second_true true b e = e
-second_true false b e = absurd (true≢false (sym e))
-
 zero_before : (line : ℕ) → ltb 0 line ≡ true → nat_cmp 0 line ≡ Less
 zero_before line e = ap (λ b. cond b Less (cond (eqb 0 line) Equal Greater)) e
 
@@ -99,10 +80,11 @@ lines_rise [] node = (tt, tt)
 lines_rise (visit ∷ visits) node =
     let lines = hit_lines visits node in
     let rest = lines_rise visits node in
-    by_test (λ l. Rises nat_cmp (0 ∷ l)) (hits_node node visit && ltb 0 visit.line) (with_number visit.line lines) lines
-    (λ e.
-    subst (λ l. Rises nat_cmp (0 ∷ l)) (sym (with_number_puts visit.line lines))
-    (after_put nat_cmp nat_cmp_total 0 visit.line lines (zero_before visit.line (second_true (hits_node node visit) (ltb 0 visit.line) e)) rest.0, put_rises nat_cmp nat_cmp_total visit.line lines rest.1))
+    cond_both (hits_node node visit && ltb 0 visit.line) (insert_sorted nat_cmp visit.line lines) lines (λ l. Rises nat_cmp (0 ∷ l))
+    (λ e. (
+      after_put nat_cmp nat_cmp_total 0 visit.line lines (zero_before visit.line (and_parts (hits_node node visit) (ltb 0 visit.line) e).1) rest.0,
+      put_rises nat_cmp nat_cmp_total visit.line lines rest.1,
+    ))
     (λ e. rest)
 
 -- the line of the first tick is among them, where that is a hit
@@ -111,14 +93,14 @@ first_line visit visits node false low hit = let le = ltb-false 0 visit.line low
 first_line visit visits node true high hit =
     let lines = hit_lines visits node in
     inr
-    (subst (λ b. Has (cond b (with_number visit.line lines) lines) visit.line) (sym (ap₂ (λ a b. a && b) hit high))
-    (subst (λ l. Has l visit.line) (sym (with_number_puts visit.line lines)) (put_has nat_cmp exact_unsigned visit.line lines)))
+    (subst (λ b. Has (cond b (insert_sorted nat_cmp visit.line lines) lines) visit.line) (sym (ap₂ (λ a b. a && b) hit high))
+    (put_has nat_cmp exact_unsigned visit.line lines))
 
 later_line : (line : ℕ) (visit : Visit) (visits : List Visit) (node : List PathStep) → Has (hit_lines visits node) line → Has (hit_lines (visit ∷ visits) node) line
 later_line line visit visits node h =
     let lines = hit_lines visits node in
-    by_test (λ l. Has l line) (hits_node node visit && ltb 0 visit.line) (with_number visit.line lines) lines
-    (λ e. subst (λ l. Has l line) (sym (with_number_puts visit.line lines)) (put_keeps nat_cmp visit.line line lines h))
+    cond_both (hits_node node visit && ltb 0 visit.line) (insert_sorted nat_cmp visit.line lines) lines (λ l. Has l line)
+    (λ e. put_keeps nat_cmp visit.line line lines h)
     (λ e. h)
 
 has_line : (visits : List Visit) (node : List PathStep) (visit : Visit) → Has visits visit → hits_node node visit ≡ true → Has (0 ∷ hit_lines visits node) visit.line

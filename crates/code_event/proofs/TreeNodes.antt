@@ -5,37 +5,29 @@ use Rattle.std.proofs.lemmas.List.Elements.{All-from_recursion}
 use Rattle.code_event.specs.Profile.{samples}
 use Rattle.code_event.specs.declared.path.PathStep.{PathStep}
 use Rattle.code_event.specs.declared.visit.Visit.{Visit}
-use Rattle.code_event.specs.Tree.{path_cmp, with_path, with_paths, prefixes, nodes, id_of}
+use Rattle.code_event.specs.Tree.{path_cmp, with_paths, prefixes, nodes, id_of}
 use Rattle.code_event.specs.TreeLaws.{BeginsSome}
 use Rattle.prof_base.specs.Prefix.{IsPrefix}
-use Rattle.code_event.proofs.TreeOrder.{Has, has_from_contains, contains_from_has, has_put, put_has, put_keeps, before_within}
-use Rattle.code_event.proofs.TreeIds.{path_total, with_path_puts}
+use Rattle.prof_base.specs.Ordered.{insert_sorted}
+use Rattle.prof_base.proofs.Ordered.{Has, has_from_contains, contains_from_has, has_put, put_has, put_keeps, before_within}
+use Rattle.code_event.proofs.TreeIds.{path_total}
 use Rattle.code_event.proofs.TreePaths.{exact_path, is_prefix_from_has, has_from_is_prefix}
-
-has_with_path : (path node : List PathStep) (set : List (List PathStep)) → Has (with_path path set) node → (path ≡ node) ⊎ Has set node
-has_with_path path node set h = has_put path_cmp path node set (subst (λ l. Has l node) (with_path_puts path set) h)
 
 has_with_paths : (paths set : List (List PathStep)) (node : List PathStep) → Has (with_paths paths set) node → Has paths node ⊎ Has set node
 has_with_paths [] set node h = inr h
-has_with_paths (path ∷ paths) set node h = elim (has_with_path path node (with_paths paths set) h) [
+has_with_paths (path ∷ paths) set node h = elim (has_put path_cmp path node (with_paths paths set) h) [
   | inl same ↦ inl (inl same)
   | inr more ↦ elim (has_with_paths paths set node more) [ inl later ↦ inl (inr later) | inr old ↦ inr old ]
 ]
 
-with_path_has : (path : List PathStep) (set : List (List PathStep)) → Has (with_path path set) path
-with_path_has path set = subst (λ l. Has l path) (sym (with_path_puts path set)) (put_has path_cmp exact_path path set)
-
-with_path_keeps : (path node : List PathStep) (set : List (List PathStep)) → Has set node → Has (with_path path set) node
-with_path_keeps path node set h = subst (λ l. Has l node) (sym (with_path_puts path set)) (put_keeps path_cmp path node set h)
-
 with_paths_keeps : (paths set : List (List PathStep)) (node : List PathStep) → Has set node → Has (with_paths paths set) node
 with_paths_keeps [] set node h = h
-with_paths_keeps (path ∷ paths) set node h = with_path_keeps path node (with_paths paths set) (with_paths_keeps paths set node h)
+with_paths_keeps (path ∷ paths) set node h = put_keeps path_cmp path node (with_paths paths set) (with_paths_keeps paths set node h)
 
 with_paths_has : (paths set : List (List PathStep)) (node : List PathStep) → Has paths node → Has (with_paths paths set) node
 with_paths_has [] set node h = absurd h
-with_paths_has (path ∷ paths) set node (inl same) = subst (Has (with_path path (with_paths paths set))) same (with_path_has path (with_paths paths set))
-with_paths_has (path ∷ paths) set node (inr h) = with_path_keeps path node (with_paths paths set) (with_paths_has paths set node h)
+with_paths_has (path ∷ paths) set node (inl same) = subst (Has (insert_sorted path_cmp path (with_paths paths set))) same (put_has path_cmp exact_path path (with_paths paths set))
+with_paths_has (path ∷ paths) set node (inr h) = put_keeps path_cmp path node (with_paths paths set) (with_paths_has paths set node h)
 
 begins_later : (node : List PathStep) (visit : Visit) (visits : List Visit) → BeginsSome node visits → BeginsSome node (visit ∷ visits)
 begins_later node visit visits h = (h.0, contains_from_has (visit ∷ visits) h.0 (inr (has_from_contains visits h.0 h.1)), h.2)
@@ -71,17 +63,17 @@ nodes_begin_paths visits node = (
   λ h. contains_from_has (nodes visits) node (has_from_begins visits node h),
 )
 
-root_kept : (path : List PathStep) (rest : List (List PathStep)) → slice_get (with_path path ([] ∷ rest)) 0 ≡ Some []
+root_kept : (path : List PathStep) (rest : List (List PathStep)) → slice_get (insert_sorted path_cmp path ([] ∷ rest)) 0 ≡ Some []
 root_kept [] rest = refl
 root_kept (step ∷ steps) rest = refl
 
-with_path_root : (path : List PathStep) (set : List (List PathStep)) → slice_get set 0 ≡ Some [] → slice_get (with_path path set) 0 ≡ Some []
-with_path_root path [] e = absurd (cc)
-with_path_root path (other ∷ rest) e = let same : other ≡ [] = cc in subst (λ first. slice_get (with_path path (first ∷ rest)) 0 ≡ Some []) (sym same) (root_kept path rest)
+insert_root : (path : List PathStep) (set : List (List PathStep)) → slice_get set 0 ≡ Some [] → slice_get (insert_sorted path_cmp path set) 0 ≡ Some []
+insert_root path [] e = absurd (cc)
+insert_root path (other ∷ rest) e = let same : other ≡ [] = cc in subst (λ first. slice_get (insert_sorted path_cmp path (first ∷ rest)) 0 ≡ Some []) (sym same) (root_kept path rest)
 
 with_paths_root : (paths set : List (List PathStep)) → slice_get set 0 ≡ Some [] → slice_get (with_paths paths set) 0 ≡ Some []
 with_paths_root [] set e = e
-with_paths_root (path ∷ paths) set e = with_path_root path (with_paths paths set) (with_paths_root paths set e)
+with_paths_root (path ∷ paths) set e = insert_root path (with_paths paths set) (with_paths_root paths set e)
 
 pub root_first : (visits : List Visit) → slice_get (nodes visits) 0 ≡ Some []
 root_first [] = refl

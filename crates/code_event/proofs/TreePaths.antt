@@ -1,14 +1,15 @@
--- Paths: those that no order tells apart are equal; what their prefixes are; and where one stands right above another.
+-- Paths: those that the order does not distinguish are equal; what their prefixes are; and where one is right above another.
 use Rattle.std.proofs.Common.{◌≡◌, suc, ◌-◌, List, [], ◌∷◌, ◌++◌, length, map, take, inl, inr, ◌&&◌, Bool, true, false, true≢false, eqb, eqb-true, Ordering, Less, Equal, Greater, is_lt, is_gt, is_eq, refl, sym, ap, ap₂, ◌∙◌, subst, arith}
 use Rattle.std.specs.Ordering.{ordering_then}
 use Rattle.std.specs.Cmp.{IsTotalOrder}
 use Rattle.std.specs.Cmp.Lexicographic.{slice_cmp}
+use Rattle.std.proofs.lemmas.Bool.{and_parts}
 use Rattle.std.proofs.lemmas.Cmp.{tied_back}
 use Rattle.std.proofs.lemmas.Map.Lookups.{CmpEqualImpliesEq, exact_unsigned, exact_bytes}
 use Rattle.code_event.specs.declared.path.PathStep.{PathStep}
 use Rattle.code_event.specs.Tree.{path_step_cmp, path_cmp, prefixes, is_below, same_path}
 use Rattle.prof_base.specs.Prefix.{IsPrefix}
-use Rattle.code_event.proofs.TreeOrder.{Has}
+use Rattle.prof_base.proofs.Ordered.{Has}
 use Rattle.code_event.proofs.TreeIds.{step_total}
 
 both_equal : (a b : Ordering) → ordering_then a b ≡ Equal → (a ≡ Equal) × (b ≡ Equal)
@@ -20,10 +21,6 @@ is_equal : (a : Ordering) → is_eq a ≡ true → a ≡ Equal
 is_equal Less e = absurd (true≢false (sym e))
 is_equal Equal e = refl
 is_equal Greater e = absurd (true≢false (sym e))
-
-both_true : (a b : Bool) → (a && b) ≡ true → (a ≡ true) × (b ≡ true)
-both_true true b e = (refl, e)
-both_true false b e = absurd (true≢false (sym e))
 
 exact_step : CmpEqualImpliesEq path_step_cmp
 exact_step x y e =
@@ -69,14 +66,14 @@ is_prefix_from_has [] part (inl same) = ([], ap (λ p. p ++ []) same)
 is_prefix_from_has [] part (inr h) = absurd h
 is_prefix_from_has (x ∷ xs) part (inl same) = (x ∷ xs, ap (λ p. p ++ x ∷ xs) same)
 is_prefix_from_has (x ∷ xs) part (inr h) =
-    let found = has_map (λ front. x ∷ front) (prefixes xs) part h in
+    let found = has_map (λ prefix. x ∷ prefix) (prefixes xs) part h in
     let rest = is_prefix_from_has xs found.0 found.1 in
     (rest.0, ap (λ l. x ∷ l) rest.1 ∙ ap (λ p. p ++ rest.0) found.2)
 
 has_prefix : {A : Type 0} (part rest : List A) → Has (prefixes (part ++ rest)) part
 has_prefix [] [] = inl refl
 has_prefix [] (x ∷ rest) = inl refl
-has_prefix (x ∷ part) rest = inr (map_has (λ front. x ∷ front) (prefixes (part ++ rest)) part (has_prefix part rest))
+has_prefix (x ∷ part) rest = inr (map_has (λ prefix. x ∷ prefix) (prefixes (part ++ rest)) part (has_prefix part rest))
 
 pub has_from_is_prefix : {A : Type 0} (path part : List A) → IsPrefix part path → Has (prefixes path) part
 has_from_is_prefix path part h = subst (λ p. Has (prefixes p) part) (sym h.1) (has_prefix part h.0)
@@ -93,14 +90,14 @@ shorter_first R o (x ∷ xs) (y ∷ ys) long e =
 
 below_parts : (parent node : List PathStep) → is_below parent node ≡ true → (length node ≡ suc (length parent)) × (path_cmp (take (length parent) node) parent ≡ Equal)
 below_parts parent node h =
-    let both = both_true (eqb (length node) (suc (length parent))) (same_path (take (length parent) node) parent) h in
+    let both = and_parts (eqb (length node) (suc (length parent))) (same_path (take (length parent) node) parent) h in
     (eqb-true (length node) (suc (length parent)) both.0, is_equal (path_cmp (take (length parent) node) parent) both.1)
 
 pub below_is_after : (parent node : List PathStep) → is_below parent node ≡ true → path_cmp parent node ≡ Less
 below_is_after parent node h = let both = below_parts parent node h in shorter_first path_step_cmp step_total parent node both.0 both.1
 
-pub parent_is_front : (parent node : List PathStep) → is_below parent node ≡ true → parent ≡ take (length node - 1) node
-parent_is_front parent node h =
+pub parent_is_prefix : (parent node : List PathStep) → is_below parent node ≡ true → parent ≡ take (length node - 1) node
+parent_is_prefix parent node h =
     let both = below_parts parent node h in
     let same : length parent ≡ length node - 1 = omega (arith, both.0) in
     sym (exact_path (take (length parent) node) parent both.1) ∙ ap (λ n. take n node) same

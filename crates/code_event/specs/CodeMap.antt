@@ -3,14 +3,15 @@ use Rattle.std.specs.Prelude.{ℕ, ◌+◌, ◌*◌, List, [], ◌∷◌, ◌++�
 use Rattle.std.specs.Option.{option_map_or}
 use Rattle.std.specs.List.{slice_get}
 use Rattle.code_event.specs.Parts.{LayoutParts}
+use Rattle.code_event.specs.declared.layout.TheConstants.{SLOT_SIZE}
 use Rattle.code_event.specs.declared.code_map.Range.{Range}
 use Rattle.code_event.specs.declared.entry.Entry.{Entry}
 use Rattle.code_event.specs.declared.event.CodeEvent.{CodeEvent}
 use Rattle.code_event.specs.declared.event.CodeEvent.TheVariants.{Create, Move, NoOpt, Deopt, Delete, Start, Stop, Finish}
 
--- the code object of a layout: 4 bytes for each slot
+-- the code object of a layout, as large as its slots
 abbrev pub range_of : ℕ → LayoutParts → Range
-range_of start layout = record { start = start; size = 4 * length layout.slots; layout = layout }
+range_of start layout = record { start = start; size = SLOT_SIZE * length layout.slots; layout = layout }
 
 -- two ranges share an address
 abbrev pub meets : Range → Range → Bool

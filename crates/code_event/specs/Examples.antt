@@ -2,6 +2,7 @@
 use Rattle.std.proofs.Common.{lit≤}
 use Rattle.std.specs.Prelude.{false, map, option_map, ℕ, ◌≤◌, List, [], ◌∷◌, Bool, true, Option, None, codes, Some}
 use Rattle.prof_base.specs.declared.ids.SessionId.{SessionId}
+use Rattle.prof_base.specs.declared.interval.TheConstants.{MAX_INTERVAL}
 use Rattle.code_event.specs.Parts.{LayoutParts}
 use Rattle.code_event.specs.ItemList.{stamped}
 use Rattle.code_event.specs.CodeMap.{ranges}
@@ -47,7 +48,7 @@ abbrev pub tick : ℕ → ℕ → VmState → Bool → Option SessionId → List
 tick time interval state hit only frames =
     item.Tick (record { order = 0; tick_number = 0; time = time; interval = interval; state = state; hit = hit; only = only; frames = frames })
 
-abbrev pub options : (interval : ℕ) → 1 ≤ interval → interval ≤ 1000000000 → Mode → Options
+abbrev pub options : (interval : ℕ) → 1 ≤ interval → interval ≤ MAX_INTERVAL → Mode → Options
 options interval low high mode = record { port = 0; interval = interval; mode = mode; max_samples = None; low = low; high = high }
 
 -- f at 100 is taken away by g at 104, which overlaps it. Of three ticks the first and the third have no known frame.
@@ -90,7 +91,7 @@ path_step name line call_line = record { entry = entry name line 1; call_line = 
 abbrev pub three_slots : LayoutParts
 three_slots = record { units = code_unit 0 (entry (codes "f") 1 1) None ∷ []; slots = slot 0 0 1 ∷ slot 0 1 2 ∷ slot 0 2 3 ∷ [] }
 
--- Two sessions over f with g inlined. The first tells the lines of calls and lists one sample; the second keeps each other tick and has one of its own.
+-- Two sessions over f with g inlined. The first distinguishes the lines of calls and lists one sample; the second keeps every other tick and has one of its own.
 abbrev pub two_sessions : List Item
 two_sessions =
     stamped (

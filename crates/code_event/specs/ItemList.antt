@@ -1,5 +1,6 @@
 -- Lists of items: the events and the undropped ticks of an isolate in the order in which it raised them. Starts and stops of sessions are events.
 use Rattle.std.specs.Prelude.{◌≡◌, ℕ, suc, ◌<◌, ◌≤◌, List, [], ◌∷◌, length, filter, not, ◌==◌, Contains}
+use Rattle.code_event.specs.declared.event.TheConstants.{MAX_SESSIONS}
 use Rattle.code_event.specs.declared.event.CodeEvent.{CodeEvent}
 use Rattle.code_event.specs.declared.event.CodeEvent.TheVariants.{Create, Move, NoOpt, Deopt, Delete, Start, Stop, Finish}
 use Rattle.code_event.specs.declared.event.EventRecord.{EventRecord}
@@ -7,7 +8,7 @@ use Rattle.code_event.specs.declared.tick.Item.{Item}
 use Rattle.code_event.specs.declared.tick.Item.TheVariants as item
 use Rattle.code_event.specs.declared.tick.Tick.{Tick}
 
--- an event with its stamps, behind so many events and so many ticks
+-- an event with its stamps, after this many events and this many ticks
 abbrev pub stamped_event : ℕ → ℕ → EventRecord → EventRecord
 stamped_event events ticks e = record { number = suc events; ticks_before = ticks; event = e.event }
 
@@ -25,7 +26,7 @@ stamped_tick events ticks t =
       frames = t.frames;
     }
 
--- the items with their stamps, behind so many events and so many ticks
+-- the items with their stamps, after this many events and this many ticks
 abbrev pub stamped_behind : ℕ → ℕ → List Item → List Item
 stamped_behind events ticks [] = []
 stamped_behind events ticks (item.Event e ∷ items) = item.Event (stamped_event events ticks e) ∷ stamped_behind (suc events) ticks items
@@ -35,7 +36,7 @@ stamped_behind events ticks (item.Tick t ∷ items) = item.Tick (stamped_tick ev
 abbrev pub stamped : List Item → List Item
 stamped items = stamped_behind 0 0 items
 
--- each event behind so many events and so many ticks has its number and says how many ticks stand before it, and so has each tick and says how many events
+-- after this many events and this many ticks, each event has its number and says how many ticks come before it, and each tick has its number and says how many events do
 abbrev pub IsStampedBehind : ℕ → ℕ → List Item → Type 0
 IsStampedBehind events ticks [] = Unit {0}
 IsStampedBehind events ticks (item.Event e ∷ items) = (e.number ≡ suc events) × (e.ticks_before ≡ ticks) × IsStampedBehind (suc events) ticks items
@@ -63,7 +64,7 @@ MayCome course (NoOpt start reason) items Then = Then course
 MayCome course (Deopt start reason) items Then = Then course
 MayCome course (Delete start) items Then = Then course
 MayCome course (Start session options time) items Then =
-    (course.time ≤ time) × ¬ Contains course.started session.0 × (length course.running < 100)
+    (course.time ≤ time) × ¬ Contains course.started session.0 × (length course.running < MAX_SESSIONS)
     × Then (record { time = time; started = session.0 ∷ course.started; running = session.0 ∷ course.running })
 MayCome course (Stop session time) items Then =
     (course.time ≤ time) × Contains course.running session.0
@@ -77,6 +78,6 @@ IsLegalAfter course (item.Event e ∷ items) = MayCome course e.event items (λ 
 IsLegalAfter course (item.Tick t ∷ items) =
     (course.time ≤ t.time) × IsLegalAfter (record { time = t.time; started = course.started; running = course.running }) items
 
--- The list is legal: times do not fall, nothing follows a finish, no session is started twice, at most 100 run at once, and only a session that runs is stopped.
+-- The list is legal: times do not fall, nothing follows a finish, no session is started twice, at most MAX_SESSIONS run at once, and only a session that runs is stopped.
 abbrev pub IsLegalItems : List Item → Type 0
 IsLegalItems items = IsLegalAfter (record { time = 0; started = []; running = [] }) items

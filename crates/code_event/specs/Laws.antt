@@ -12,7 +12,7 @@ use Rattle.code_event.specs.declared.code_map.Range.{Range}
 use Rattle.code_event.specs.declared.seen.ResolvedTick.{ResolvedTick}
 use Rattle.code_event.specs.declared.tick.Item.{Item}
 
--- no two of these ranges share an address: each meets none of those behind it
+-- no two of these ranges share an address: each meets none of those after it
 abbrev pub AreDisjoint : List Range → Type 0
 AreDisjoint [] = Unit {0}
 AreDisjoint (range ∷ others) = AllByRecursion (λ other. meets range other ≡ false) others × AreDisjoint others

@@ -18,7 +18,7 @@ visit_of mode tick = record { path = path mode tick.frames; line = leaf_line tic
 abbrev pub visits_of : Mode → List ResolvedTick → List Visit
 visits_of mode ticks = map (visit_of mode) ticks
 
--- the first so many, or all
+-- at most this many, from the first on, or all
 abbrev pub cut : {A : Type 0} → Option ℕ → List A → List A
 cut None xs = xs
 cut (Some most) xs = take most xs

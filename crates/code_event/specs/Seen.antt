@@ -44,7 +44,7 @@ mark reasons (NoOpt start reason) = []
 mark reasons (Deopt start reason) = []
 mark reasons (Delete start) = []
 
--- what is seen of items that stand behind events with these ranges and reasons
+-- what is seen of items that follow events with these ranges and reasons
 abbrev pub seen_behind : List Range → DeoptReasons → List Item → List Seen
 seen_behind ranges reasons [] = []
 seen_behind ranges reasons (item.Event e ∷ items) =

@@ -4,6 +4,8 @@ use Rattle.std.specs.Option.{option_map_or, option_to_list}
 use Rattle.std.specs.List.{slice_get}
 use Rattle.code_event.specs.Parts.{LayoutParts}
 use Rattle.code_event.specs.Layout.{sites_above}
+use Rattle.code_event.specs.declared.layout.TheConstants.{SLOT_SIZE}
+use Rattle.code_event.specs.declared.layout.TheConstants.Layout.{MAX_ABOVE}
 use Rattle.code_event.specs.declared.code_map.Range.{Range}
 use Rattle.code_event.specs.declared.seen.ResolvedFrame.{ResolvedFrame}
 use Rattle.code_event.specs.declared.layout.Slot.{Slot}
@@ -22,15 +24,15 @@ unit_frame layout number line = option_to_list (option_map (λ u. record { entry
 -- the unit of a slot at the slot's line, then each unit above at the line of the call that was inlined
 abbrev pub slot_frames : LayoutParts → Slot → List ResolvedFrame
 slot_frames layout slot =
-    unit_frame layout slot.unit slot.line ++ flat_map (λ site. unit_frame layout site.unit site.line) (sites_above 4 layout.units slot.unit)
+    unit_frame layout slot.unit slot.line ++ flat_map (λ site. unit_frame layout site.unit site.line) (sites_above MAX_ABOVE layout.units slot.unit)
 
 -- an address lies in a range
 abbrev pub holds : ℕ → Range → Bool
 holds address range = nat_le range.start address && nat_lt address (range.start + range.size)
 
--- the slot of an address in a range, at 4 bytes a slot
+-- the slot of an address in a range
 abbrev pub slot_at : ℕ → Range → Option Slot
-slot_at address range = slice_get range.layout.slots ((address - range.start) / 4)
+slot_at address range = slice_get range.layout.slots ((address - range.start) / SLOT_SIZE)
 
 -- the functions at an address of a range, youngest first
 abbrev pub range_frames : ℕ → Range → List ResolvedFrame

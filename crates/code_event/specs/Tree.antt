@@ -3,6 +3,7 @@ use Rattle.std.specs.Prelude.{ℕ, suc, List, [], ◌∷◌, length, map, take, 
 use Rattle.std.specs.declared.cmp.Ordering.{Ordering}
 use Rattle.std.specs.Ordering.{is_lt, is_eq, ordering_then, nat_cmp}
 use Rattle.std.specs.Cmp.Lexicographic.{slice_cmp}
+use Rattle.prof_base.specs.Ordered.{insert_sorted, place}
 use Rattle.code_event.specs.DeoptReasons.{DeoptReasons}
 use Rattle.code_event.specs.Symbolizer.{special}
 use Rattle.code_event.specs.declared.entry.Entry.{Entry}
@@ -38,28 +39,21 @@ same_path one other = is_eq (path_cmp one other)
 -- all prefixes, the empty one and the whole path among them
 abbrev pub prefixes : {A : Type 0} → List A → List (List A)
 prefixes [] = [] ∷ []
-prefixes (x ∷ xs) = [] ∷ map (λ front. x ∷ front) (prefixes xs)
+prefixes (x ∷ xs) = [] ∷ map (λ prefix. x ∷ prefix) (prefixes xs)
 
--- a path in a set of paths, each once and in order
-abbrev pub with_path : List PathStep → List (List PathStep) → List (List PathStep)
-with_path path [] = path ∷ []
-with_path path (other ∷ paths) =
-    if is_before path other then path ∷ other ∷ paths
-    else if same_path path other then other ∷ paths
-    else other ∷ with_path path paths
-
+-- a set of paths, each once and in order, with more of them
 abbrev pub with_paths : List (List PathStep) → List (List PathStep) → List (List PathStep)
 with_paths [] set = set
-with_paths (path ∷ paths) set = with_path path (with_paths paths set)
+with_paths (path ∷ paths) set = insert_sorted path_cmp path (with_paths paths set)
 
 -- the nodes: all prefixes of all paths, and the empty path in any case, each once and in order
 abbrev pub nodes : List Visit → List (List PathStep)
 nodes [] = [] ∷ []
 nodes (visit ∷ visits) = with_paths (prefixes visit.path) (nodes visits)
 
--- a node's id: one more than the nodes that stand before it
+-- a node's id: its place among the nodes
 abbrev pub id_of : List (List PathStep) → List PathStep → ℕ
-id_of nodes node = suc (count_by (λ other. is_before other node) nodes)
+id_of nodes node = place path_cmp nodes node
 
 -- a tick is a hit of a node: it counts, and has just that path
 abbrev pub hits_node : List PathStep → Visit → Bool
@@ -73,22 +67,17 @@ hits visits node = count_by (hits_node node) visits
 abbrev pub hits_at : List Visit → List PathStep → ℕ → ℕ
 hits_at visits node line = count_by (λ visit. hits_node node visit && visit.line == line) visits
 
--- a number in a set of numbers, each once and rising
-abbrev pub with_number : ℕ → List ℕ → List ℕ
-with_number n [] = n ∷ []
-with_number n (m ∷ ms) = if nat_lt n m then n ∷ m ∷ ms else if n == m then m ∷ ms else m ∷ with_number n ms
-
 -- the lines above 0 of a node's hits, each once and rising
 abbrev pub hit_lines : List Visit → List PathStep → List ℕ
 hit_lines [] node = []
 hit_lines (visit ∷ visits) node =
-    if hits_node node visit && nat_lt 0 visit.line then with_number visit.line (hit_lines visits node) else hit_lines visits node
+    if hits_node node visit && nat_lt 0 visit.line then insert_sorted nat_cmp visit.line (hit_lines visits node) else hit_lines visits node
 
 -- the hits of a node by its lines
 abbrev pub line_ticks : List Visit → List PathStep → List LineTicks
 line_ticks visits node = map (λ line. record { line = line; ticks = hits_at visits node line }) (hit_lines visits node)
 
--- one node stands right below another: it is one step longer
+-- one node is right below another: it is one step longer
 abbrev pub is_below : List PathStep → List PathStep → Bool
 is_below parent node = length node == suc (length parent) && same_path (take (length parent) node) parent
 

@@ -1,21 +1,16 @@
 -- What holds of every tree.
-use Rattle.std.specs.Prelude.{◌≡◌, ℕ, zero, suc, List, [], ◌∷◌, IsTrue}
+use Rattle.std.specs.Prelude.{◌≡◌, List, IsTrue}
 use Rattle.std.specs.List.{Contains}
 use Rattle.prof_base.specs.Prefix.{IsPrefix}
 use Rattle.code_event.specs.Tree.{is_below}
 use Rattle.code_event.specs.declared.path.PathStep.{PathStep}
 use Rattle.code_event.specs.declared.visit.Visit.{Visit}
 
--- so many numbers that rise by one, of which the first is this one
-abbrev pub numbers_from : ℕ → ℕ → List ℕ
-numbers_from start zero = []
-numbers_from start (suc count) = start ∷ numbers_from (suc start) count
-
 -- the path of one of the ticks begins with this one
 abbrev pub BeginsSome : List PathStep → List Visit → Type 0
 BeginsSome node visits = (visit : Visit) × Contains visits visit × IsPrefix node visit.path
 
--- just one node stands right above this one
+-- just one node is right above this one
 pub record HasOneParent (nodes : List (List PathStep)) (node : List PathStep) : Type 0 where
   pub parent : List PathStep
   pub stands : Contains nodes parent

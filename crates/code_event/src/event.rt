@@ -1,10 +1,14 @@
 // Code events, and the commands and answers that lead to some of them.
 ghost use Rattle.std.specs.Prelude.{◌≡◌, ◌≤◌, IfOk};
+ghost use Rattle.prof_base.specs.declared.interval.TheConstants.{MAX_INTERVAL};
 
 use crate::layout::Layout;
 use prof_base::{Memory, Micros, Sequence, SessionId, Text};
 
-/// Which line of a caller a node of the profile stands for, after V8's line modes.
+/// The greatest number of sessions that run at once.
+pub const MAX_SESSIONS: usize = 100;
+
+/// Which line of its caller a node of the profile is for, after V8's line modes.
 #[derive(Clone, Copy, Debug, PartialEq, Eq)]
 pub enum Mode {
     /// None: a function called from two lines of another is one node (`kLeafNodeLineNumbers`).
@@ -18,13 +22,13 @@ pub enum Mode {
 pub struct Options {
     /// The connection that asked, from 1 to 8, or 0.
     pub port: u8,
-    /// The interval of its samples in microseconds, from 1 to 1,000,000,000.
+    /// The interval of its samples in microseconds, from 1 to [`prof_base::MAX_INTERVAL`].
     pub interval: u32,
     pub mode: Mode,
     /// The greatest number of samples that it lists, or none: its nodes and hits go on past that.
     pub max_samples: Option<u32>,
     ghost low: { 1 ≤ interval },
-    ghost high: { interval ≤ 1000000000 },
+    ghost high: { interval ≤ MAX_INTERVAL },
 }
 
 /// What a port asks of an isolate.
@@ -39,7 +43,7 @@ pub enum Command {
 pub enum Answer {
     /// The session runs, and has this number.
     Started(SessionId),
-    /// 100 sessions run.
+    /// [`MAX_SESSIONS`] sessions run.
     TooMany,
     /// The session was stopped.
     Stopped,
@@ -113,7 +117,7 @@ pub enum CodeEvent {
 pub struct EventRecord {
     /// Its place among the events, from 1.
     pub number: u64,
-    /// How many undropped ticks stand before it.
+    /// How many undropped ticks come before it.
     pub ticks_before: u64,
     pub event: CodeEvent,
 }

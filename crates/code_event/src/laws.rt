@@ -1,8 +1,13 @@
 //! Laws of the definitions. Each function does nothing: its contract is the law.
 
+ghost use Rattle.std.specs.Prelude.{◌≡◌};
+
 mod events;
 mod tree;
 
+use crate::event::MAX_SESSIONS;
+use crate::layout::{Layout, SLOT_SIZE};
+use crate::tick::Frames;
 pub use events::{
     other_ticks_do_not_matter, ranges_are_disjoint, stamping_gives_stamps, stamps_are_unique,
 };
@@ -11,3 +16,15 @@ pub use tree::{
     each_sample_is_a_node, every_node_but_the_root_has_a_parent, ids_number_the_nodes,
     nodes_begin_the_paths, parents_come_first, the_root_comes_first,
 };
+
+/// The limits that contracts and definitions cite by name: how many sessions run at once, how many
+/// addresses a stack has, how many units and slots a layout has, how many units are above one, each at
+/// most; and how many bytes a slot takes.
+pub fn limits()
+    ensures sessions { MAX_SESSIONS ≡ 100 }
+    ensures addresses { Frames.MAX_LEN ≡ 255 }
+    ensures units { Layout.MAX_UNITS ≡ 4096 }
+    ensures slots { Layout.MAX_SLOTS ≡ 4096 }
+    ensures above { Layout.MAX_ABOVE ≡ 4 }
+    ensures slot_size { SLOT_SIZE ≡ 4 }
+{}

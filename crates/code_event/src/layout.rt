@@ -1,10 +1,13 @@
-// Layouts of code objects: which functions stand inlined in one, and what each of its slots is.
+// Layouts of code objects: which functions are inlined in one, and what each of its slots is.
 ghost use Rattle.std.specs.Prelude.{◌≡◌, ◌≤◌, ◌*◌, ◌++◌, [], ◌∷◌, take, length, IfOk};
 ghost use Rattle.code_event.specs.Layout.{IsLayout};
 
 use crate::entry::Entry;
 use prof_base::{FuncId, Memory, Sequence};
 use std::marker::Model;
+
+/// The bytes of a slot in the address space.
+pub const SLOT_SIZE: u32 = 4;
 
 /// Where a function was inlined: the call of the unit above it.
 #[derive(Clone, Copy, Debug, PartialEq, Eq)]
@@ -26,7 +29,7 @@ pub struct Unit {
     pub parent: Option<Site>,
 }
 
-/// The place of an instruction in a layout. Each takes 4 bytes.
+/// The place of an instruction in a layout. Each takes [`SLOT_SIZE`] bytes.
 #[derive(Clone, Copy, Debug, PartialEq, Eq)]
 pub struct Slot {
     /// The unit of the instruction, by its number in the layout.
@@ -37,9 +40,9 @@ pub struct Slot {
     pub line: u32,
 }
 
-/// The layout of a code object: 1 to 4,096 units and 1 to 4,096 slots, each list in order. Unit 0
-/// alone has no parent, a unit's parent has a smaller number, no unit has more than four above it, and
-/// the unit of each slot is there.
+/// The layout of a code object: 1 to [`Layout::MAX_UNITS`] units and 1 to [`Layout::MAX_SLOTS`] slots,
+/// each list in order. Unit 0 alone has no parent, a unit's parent has a smaller number, no unit has
+/// more than [`Layout::MAX_ABOVE`] above it, and the unit of each slot is there.
 #[derive(Debug, Drop)]
 pub struct Layout {
     units: Sequence<Unit>,
@@ -82,6 +85,15 @@ fn copy_units(units: &Sequence<Unit>) -> Result<Sequence<Unit>, Memory>
 }
 
 impl Layout {
+    /// The greatest number of units.
+    pub const MAX_UNITS: usize = 4096;
+
+    /// The greatest number of slots.
+    pub const MAX_SLOTS: usize = 4096;
+
+    /// The greatest number of units above one.
+    pub const MAX_ABOVE: usize = 4;
+
     /// The layout of these units and slots. It takes no memory.
     pub fn new(units: Sequence<Unit>, slots: Sequence<Slot>) -> Layout
         requires { IsLayout (record { units = units; slots = slots }) }
@@ -107,12 +119,12 @@ impl Layout {
         self.slots.as_slice()
     }
 
-    /// The size of the code object, in bytes: 4 for each slot.
+    /// The size of the code object, in bytes.
     pub fn size(&self) -> u32
-        ensures size { result ≡ 4 * length self.now.slots }
-        ensures bound { result ≤ 16384 }
+        ensures size { result ≡ SLOT_SIZE * length self.now.slots }
+        ensures bound { result ≤ SLOT_SIZE * Layout.MAX_SLOTS }
     {
-        self.slots.len() as u32 * 4
+        self.slots.len() as u32 * SLOT_SIZE
     }
 
     /// An equal layout, on the allocators of its lists.

@@ -1,5 +1,5 @@
 //! What an isolate raises and a processor takes: code events and ticks; and what comes of them: paths
-//! and finished profiles. The definitions of all that a profile file is stand in `specs/`.
+//! and finished profiles. `specs/` has the definitions of everything in a profile's file.
 #![tactic(auto)]
 
 mod code_map;
@@ -17,8 +17,8 @@ mod visit;
 
 pub use code_map::Range;
 pub use entry::Entry;
-pub use event::{Answer, CodeEvent, Command, EventRecord, Mode, Options, PortFile};
-pub use layout::{Layout, Site, Slot, Unit};
+pub use event::{Answer, CodeEvent, Command, EventRecord, MAX_SESSIONS, Mode, Options, PortFile};
+pub use layout::{Layout, SLOT_SIZE, Site, Slot, Unit};
 pub use path::{PathPair, PathStep};
 pub use profile::{FinNode, Finished, LineTicks};
 pub use recording::{Begun, Recording};

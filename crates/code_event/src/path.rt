@@ -8,7 +8,7 @@ use prof_base::{Memory, Sequence};
 #[derive(Debug, Drop)]
 pub struct PathStep {
     pub entry: Entry,
-    /// The line of the step before, where the mode tells callers' lines apart and there is one, else
+    /// The line of the step before, where the mode distinguishes callers' lines and there is one, else
     /// 0.
     pub call_line: u32,
 }

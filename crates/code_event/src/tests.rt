@@ -71,7 +71,12 @@ fn events_and_ticks_are_copied(rt: HostRuntime) -> Result<(), Fail> {
     let alloc = rt.alloc();
     let layout = layout(alloc)?;
     assert_eq!(rt; layout.size(), 4);
-    match (CodeEvent::Create { start: 4104, layout }).copy()? {
+    match (CodeEvent::Create {
+        start: 4104,
+        layout,
+    })
+    .copy()?
+    {
         CodeEvent::Create { start, layout } => {
             assert_eq!(rt; start, 4104);
             check_entry(&rt, &layout.units()[0].entry);
@@ -93,6 +98,9 @@ fn events_and_ticks_are_copied(rt: HostRuntime) -> Result<(), Fail> {
     };
     let copy = tick.copy();
     assert_eq!(rt; copy.frames.as_slice(), [4152].as_slice());
-    assert_eq!(rt; (copy.state, copy.hit, copy.only), (VmState::Gc, true, Some(SessionId(5))));
+    assert_eq!(rt;
+        (copy.state, copy.hit, copy.only),
+        (VmState::Gc, true, Some(SessionId(5)))
+    );
     Ok(())
 }

@@ -48,7 +48,7 @@ impl Frames {
 
     /// Adds an address at the end.
     pub fn push(&mut self, address: u32)
-        requires { length self.old < 255 }
+        requires { length self.old < Frames.MAX_LEN }
         ensures { self.new ≡ self.old ++ address ∷ [] }
     {
         self.addresses.push(address);
@@ -57,7 +57,7 @@ impl Frames {
     /// The addresses, youngest first.
     pub fn as_slice(&self) -> &[u32]
         ensures addresses { result.now ≡ self.now }
-        ensures few { length self.now ≤ 255 }
+        ensures few { length self.now ≤ Frames.MAX_LEN }
     {
         self.addresses.as_slice()
     }

@@ -1,4 +1,4 @@
--- Pieces that were put behind one another.
+-- Pieces that were put one after another.
 use Rattle.std.proofs.Common.{◌≡◌, ℕ, ◌≤◌, List, [], ◌∷◌, ◌++◌, length, map, codes, Some, refl, arith}
 use Rattle.std.proofs.lemmas.List.{append_assoc}
 use Rattle.json.specs.Print.{quoted}

@@ -11,7 +11,7 @@ join-more [] text = refl
 join-more (one ∷ []) text = sym (append_assoc one (44 ∷ []) text)
 join-more (one ∷ other ∷ texts) text = rw (join-more (other ∷ texts) text) (simp append_assoc)
 
--- behind as many texts as this
+-- after as many texts as this
 pub join-at : (texts : List (List ℕ)) (at : ℕ) (text : List ℕ) → length texts ≡ at → join_with_byte 44 (texts ++ text ∷ []) ≡ join_with_byte 44 texts ++ comma_before at ++ text
 join-at texts at text e = rw (← e) (join-more texts text)
 

@@ -1,7 +1,6 @@
 pub mod Appends
 pub mod Joined
 pub mod Nodes
-pub mod Ordered
 pub mod PathOrder
 pub mod Profiles
 pub mod Sums

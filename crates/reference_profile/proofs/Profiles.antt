@@ -10,8 +10,10 @@ use Rattle.code_event.specs.declared.profile.FinNode.{FinNode}
 use Rattle.code_event.specs.DeoptReasons.{reasons_in}
 use Rattle.code_event.specs.Symbolizer.{leaf_line}
 use Rattle.code_event.specs.Recording.{recording_by}
-use Rattle.code_event.specs.Tree.{fin_nodes}
-use Rattle.code_event.specs.Profile.{visits_of, cut, samples, deltas, profile_of}
+use Rattle.code_event.specs.Tree.{nodes, id_of, fin_node}
+use Rattle.code_event.specs.Profile.{visits_of, cut, deltas, profile_of}
+use Rattle.code_event.specs.declared.path.PathStep.{PathStep}
+use Rattle.code_event.specs.declared.visit.Visit.{Visit}
 use Rattle.reference_profile.specs.Listed.{listed}
 
 pub map_step : {X Y : Type 0} (f : X → Y) (xs : List X) (i : ℕ) (x : X) (old new : List Y) (y : Y) → i < length xs → x ≡ get_or xs i x → old ≡ map f (take i xs) → new ≡ old ++ y ∷ [] → y ≡ f x → new ≡ map f (take (i + 1) xs)
@@ -31,5 +33,6 @@ cut_map f (Some most) xs n e =
     let few : n ≡ min most (length xs) = omega arith in
     rw few (ap (map f) (take_min most xs) ∙ sym (take-map f most xs))
 
-pub profile_is : (session : SessionId) (listed : ListedRecording) (ticks : List ResolvedTick) (nodes : List FinNode) (ids times : List ℕ) → nodes ≡ fin_nodes (visits_of listed.begun.options.mode ticks) (reasons_in listed.reasons) → ids ≡ cut listed.begun.options.max_samples (samples (visits_of listed.begun.options.mode ticks)) → times ≡ deltas listed.begun.start (cut listed.begun.options.max_samples (map (λ tick. tick.time) ticks)) → record { session = session; port = listed.begun.options.port; start = listed.begun.start; end = listed.end; nodes = nodes; samples = ids; deltas = times } ≡ profile_of session (recording_by listed) ticks
-profile_is session listed ticks nodes ids times e f g = rw (e, f, g) refl
+pub profile_is : (session : SessionId) (listed : ListedRecording) (ticks : List ResolvedTick) (visits : List Visit) (set : List (List PathStep)) (finished : List FinNode) (ids times : List ℕ) → visits ≡ visits_of listed.begun.options.mode ticks → set ≡ nodes visits
+    → finished ≡ map (fin_node set visits (reasons_in listed.reasons)) set → ids ≡ cut listed.begun.options.max_samples (map (λ visit. id_of set visit.path) visits) → times ≡ deltas listed.begun.start (cut listed.begun.options.max_samples (map (λ tick. tick.time) ticks)) → record { session = session; port = listed.begun.options.port; start = listed.begun.start; end = listed.end; nodes = finished; samples = ids; deltas = times } ≡ profile_of session (recording_by listed) ticks
+profile_is session listed ticks visits set finished ids times v s e f g = rw (e, f, g, s, v) refl

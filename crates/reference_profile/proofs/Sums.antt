@@ -1,4 +1,4 @@
--- The sum of the intervals stands in place of the ticks.
+-- The sum of the intervals in place of the ticks.
 use Rattle.std.proofs.Common.{◌≡◌, ℕ, ◌+◌, List, [], ◌∷◌, ◌++◌, Bool, true, false, refl, ap, ◌∙◌, arith}
 use Rattle.std.specs.Prelude.{Option, Some, None, option_map, if◌then◌else◌, nat_lt, nat_le, ◌==◌, sum_by}
 use Rattle.std.specs.Option.{option_map_or}

@@ -1,4 +1,4 @@
--- Kept ticks by sums: what stands in place of the ticks since the last that was kept.
+-- Kept ticks by sums: a sum takes the place of the ticks since the last that was kept.
 use Rattle.std.specs.Prelude.{ℕ, ◌+◌, List, [], ◌∷◌, ◌==◌, nat_lt, Option, Some, None, if◌then◌else◌}
 use Rattle.std.specs.Option.{option_map_or}
 use Rattle.code_event.specs.declared.seen.ResolvedTick.{ResolvedTick}

@@ -18,7 +18,10 @@ pub(crate) fn copy_reasons(reasons: &Sequence<DeoptReason>) -> Result<Sequence<D
 }
 
 /// The reasons with a new one before the others.
-fn with_latest(reasons: Sequence<DeoptReason>, latest: DeoptReason) -> Result<Sequence<DeoptReason>, Memory>
+fn with_latest(
+    reasons: Sequence<DeoptReason>,
+    latest: DeoptReason,
+) -> Result<Sequence<DeoptReason>, Memory>
     ensures { IfOk result (λ all. all ≡ latest ∷ reasons) }
 {
     let mut all = reasons.into_vec();

@@ -2,9 +2,9 @@
 ghost use Rattle.std.specs.Prelude.{◌≡◌, ◌≤◌, ◌++◌, IfOk, map, take};
 ghost use Rattle.code_event.specs.Seen.{seen_by};
 ghost use Rattle.code_event.specs.Symbolizer.{path, leaf_path, caller_path, leaf_line};
-ghost use Rattle.code_event.specs.Tree.{id_of, nodes};
+ghost use Rattle.code_event.specs.Tree.{id_of};
 ghost use Rattle.code_event.specs.Recording.{recording_by};
-ghost use Rattle.code_event.specs.Profile.{visit_of, visits_of, cut, samples, deltas, profile_of, finished_of};
+ghost use Rattle.code_event.specs.Profile.{visit_of, visits_of, cut, deltas, profile_of, finished_of};
 ghost use Rattle.code_event.specs.FileText.{file};
 ghost use Rattle.reference_profile.specs.Listed.{listed};
 
@@ -12,9 +12,7 @@ use crate::profile_text::file_text;
 use crate::recording::recorded;
 use crate::subsample::kept;
 use crate::tree::{fin_nodes, id_of, nodes};
-use code_event::{
-    Finished, Mode, PathStep, Recording, ResolvedFrame, ResolvedTick, Seen, Visit,
-};
+use code_event::{Finished, Mode, PathStep, Recording, ResolvedFrame, ResolvedTick, Seen, Visit};
 use prof_base::{MAX_INTERVAL, Memory, Micros, Sequence, SessionId};
 use std::alloc::Global;
 
@@ -95,7 +93,7 @@ fn ids(
     Ok(found)
 }
 
-// How many of so many samples are listed.
+// How many of these samples are listed.
 fn listed(most: Option<u32>, count: usize) -> usize
     ensures within { result ≤ count }
     ensures value { result ≡ listed most count }
@@ -107,15 +105,15 @@ fn listed(most: Option<u32>, count: usize) -> usize
 }
 
 // The ids of the samples that are listed.
-fn samples(alloc: Global, most: Option<u32>, visits: &[Visit]) -> Result<Sequence<u32>, Memory>
-    ensures { IfOk result (λ found. found ≡ cut most (samples visits.now)) }
+fn samples(
+    alloc: Global,
+    most: Option<u32>,
+    nodes: &[Sequence<PathStep>],
+    visits: &[Visit],
+) -> Result<Sequence<u32>, Memory>
+    ensures { IfOk result (λ found. found ≡ cut most (map (λ visit. id_of nodes.now visit.path) visits.now)) }
 {
-    let nodes = nodes(alloc, visits)?;
-    ids(
-        alloc,
-        nodes.as_slice(),
-        &visits[..listed(most, visits.len())],
-    )
+    ids(alloc, nodes, &visits[..listed(most, visits.len())])
 }
 
 // The microseconds from each tick to the one before it, and from the first to this time.
@@ -144,8 +142,19 @@ fn profile_of(
     let options = recording.begun.options;
     let start = recording.begun.start;
     let visits = visits(alloc, options.mode, ticks)?;
-    let nodes = fin_nodes(alloc, visits.as_slice(), recording.reasons.as_slice())?;
-    let samples = samples(alloc, options.max_samples, visits.as_slice())?;
+    let set = nodes(alloc, visits.as_slice())?;
+    let nodes = fin_nodes(
+        alloc,
+        set.as_slice(),
+        visits.as_slice(),
+        recording.reasons.as_slice(),
+    )?;
+    let samples = samples(
+        alloc,
+        options.max_samples,
+        set.as_slice(),
+        visits.as_slice(),
+    )?;
     let last = listed(options.max_samples, ticks.len());
     let deltas = deltas(alloc, start, &ticks[..last])?;
     Ok(Finished {
@@ -160,7 +169,7 @@ fn profile_of(
 }
 
 /// The finished profile of a session in what is seen, by the base that the isolate rounds intervals
-/// to; none where the session was not ended. More nodes than ids is want of room.
+/// to; none where the session was not ended. More nodes than there are ids are out of memory.
 pub fn finished_of(
     alloc: Global,
     base: u32,

@@ -1,13 +1,12 @@
 // The file of a finished profile: `Profile` in the Chrome DevTools Protocol 1.3 as JSON (RFC 8259),
 // with no space.
-ghost use Rattle.std.specs.Prelude.{◌≡◌, ◌++◌, decimal, map, codes, IfOk, OnOk, option_map};
+ghost use Rattle.std.specs.Prelude.{◌≡◌, ◌++◌, List, ℕ, decimal, map, IfOk, OnOk, Some};
 ghost use Rattle.json.specs.Print.{quoted};
 ghost use Rattle.code_event.specs.FileText.{list_text, from_zero, call_frame_text, line_text, children_text, lines_text, reason_text, node_text, node_texts, file_text};
 ghost use Rattle.reference_profile.specs.TextParts.{comma_before};
 
 use code_event::{Entry, FinNode, Finished, LineTicks};
-use itoa::Buffer;
-use prof_base::{Memory, Sequence, Text};
+use prof_base::{Memory, Sequence, Text, put_decimal};
 use serde_json::Value;
 use std::alloc::{AllocError, Global};
 
@@ -17,12 +16,6 @@ fn put(out: &mut Vec<u8>, text: &str) -> Result<(), AllocError>
     out.extend_from_slice(text.as_bytes())
 }
 
-fn put_number(out: &mut Vec<u8>, number: u64) -> Result<(), AllocError>
-    ensures { OnOk result (out.new.items ≡ out.old.items ++ decimal number) }
-{
-    put(out, Buffer::new().format(number))
-}
-
 // A number that counts from 1, counted from 0, or -1 for 0.
 fn put_from_zero(out: &mut Vec<u8>, number: u32) -> Result<(), AllocError>
     ensures { OnOk result (out.new.items ≡ out.old.items ++ from_zero number) }
@@ -30,7 +23,7 @@ fn put_from_zero(out: &mut Vec<u8>, number: u32) -> Result<(), AllocError>
     if number == 0 {
         put(out, "-1")
     } else {
-        put_number(out, u64::from(number - 1))
+        put_decimal(out, u64::from(number - 1))
     }
 }
 
@@ -42,33 +35,11 @@ fn put_string(alloc: Global, out: &mut Vec<u8>, text: &Text) -> Result<(), Alloc
     put(out, json.as_str())
 }
 
-// What parts an item of a list from the one before it, if there is one.
+// The comma before an item of a list, where it is not the first.
 fn put_comma(out: &mut Vec<u8>, at: usize) -> Result<(), AllocError>
     ensures { OnOk result (out.new.items ≡ out.old.items ++ comma_before at) }
 {
     if at == 0 { Ok(()) } else { put(out, ",") }
-}
-
-fn put_ids(out: &mut Vec<u8>, ids: &[u32]) -> Result<(), AllocError>
-    ensures { OnOk result (out.new.items ≡ out.old.items ++ list_text (map decimal ids.now)) }
-{
-    put(out, "[")?;
-    for (at, id) in ids.iter().enumerate() {
-        put_comma(out, at)?;
-        put_number(out, u64::from(*id))?;
-    }
-    put(out, "]")
-}
-
-fn put_deltas(out: &mut Vec<u8>, deltas: &[u64]) -> Result<(), AllocError>
-    ensures { OnOk result (out.new.items ≡ out.old.items ++ list_text (map decimal deltas.now)) }
-{
-    put(out, "[")?;
-    for (at, delta) in deltas.iter().enumerate() {
-        put_comma(out, at)?;
-        put_number(out, *delta)?;
-    }
-    put(out, "]")
 }
 
 fn put_call_frame(alloc: Global, out: &mut Vec<u8>, entry: &Entry) -> Result<(), AllocError>
@@ -77,7 +48,7 @@ fn put_call_frame(alloc: Global, out: &mut Vec<u8>, entry: &Entry) -> Result<(),
     put(out, "{\"functionName\":")?;
     put_string(alloc, out, &entry.name)?;
     put(out, ",\"scriptId\":\"")?;
-    put_number(out, u64::from(entry.script))?;
+    put_decimal(out, u64::from(entry.script))?;
     put(out, "\",\"url\":")?;
     put_string(alloc, out, &entry.url)?;
     put(out, ",\"lineNumber\":")?;
@@ -87,23 +58,52 @@ fn put_call_frame(alloc: Global, out: &mut Vec<u8>, entry: &Entry) -> Result<(),
     put(out, "}")
 }
 
-fn put_line(out: &mut Vec<u8>, line: &LineTicks) -> Result<(), AllocError>
-    ensures { OnOk result (out.new.items ≡ out.old.items ++ line_text line.now) }
-{
-    put(out, "{\"line\":")?;
-    put_number(out, u64::from(line.line))?;
-    put(out, ",\"ticks\":")?;
-    put_number(out, line.ticks)?;
-    put(out, "}")
+/// An item of a list in the file.
+trait ListItem {
+    /// Its text there.
+    ghost text: { Self → List ℕ };
+
+    /// Adds that text.
+    fn put_item(&self, out: &mut Vec<u8>) -> Result<(), AllocError>
+        ensures { OnOk result (out.new.items ≡ out.old.items ++ text self.now) };
 }
 
-fn put_line_list(out: &mut Vec<u8>, lines: &[LineTicks]) -> Result<(), AllocError>
-    ensures { OnOk result (out.new.items ≡ out.old.items ++ list_text (map line_text lines.now)) }
+impl ListItem for u32 {
+    ghost text = { decimal };
+
+    fn put_item(&self, out: &mut Vec<u8>) -> Result<(), AllocError> {
+        put_decimal(out, u64::from(*self))
+    }
+}
+
+impl ListItem for u64 {
+    ghost text = { decimal };
+
+    fn put_item(&self, out: &mut Vec<u8>) -> Result<(), AllocError> {
+        put_decimal(out, *self)
+    }
+}
+
+impl ListItem for LineTicks {
+    ghost text = { line_text };
+
+    fn put_item(&self, out: &mut Vec<u8>) -> Result<(), AllocError> {
+        put(out, "{\"line\":")?;
+        put_decimal(out, u64::from(self.line))?;
+        put(out, ",\"ticks\":")?;
+        put_decimal(out, self.ticks)?;
+        put(out, "}")
+    }
+}
+
+// A list in brackets.
+fn put_list<T: ListItem>(out: &mut Vec<u8>, items: &[T]) -> Result<(), AllocError>
+    ensures { OnOk result (out.new.items ≡ out.old.items ++ list_text (map T.text items.now)) }
 {
     put(out, "[")?;
-    for (at, line) in lines.iter().enumerate() {
+    for (at, item) in items.iter().enumerate() {
         put_comma(out, at)?;
-        put_line(out, line)?;
+        item.put_item(out)?;
     }
     put(out, "]")
 }
@@ -115,7 +115,7 @@ fn put_children(out: &mut Vec<u8>, ids: &[u32]) -> Result<(), AllocError>
         [] => Ok(()),
         [_, ..] => {
             put(out, ",\"children\":")?;
-            put_ids(out, ids)
+            put_list(out, ids)
         }
     }
 }
@@ -127,7 +127,7 @@ fn put_lines(out: &mut Vec<u8>, lines: &[LineTicks]) -> Result<(), AllocError>
         [] => Ok(()),
         [_, ..] => {
             put(out, ",\"positionTicks\":")?;
-            put_line_list(out, lines)
+            put_list(out, lines)
         }
     }
 }
@@ -158,11 +158,11 @@ fn put_node(alloc: Global, out: &mut Vec<u8>, id: u64, node: &FinNode) -> Result
     ensures { OnOk result (out.new.items ≡ out.old.items ++ node_text id node.now) }
 {
     put(out, "{\"id\":")?;
-    put_number(out, id)?;
+    put_decimal(out, id)?;
     put(out, ",\"callFrame\":")?;
     put_call_frame(alloc, out, &node.entry)?;
     put(out, ",\"hitCount\":")?;
-    put_number(out, node.hits)?;
+    put_decimal(out, node.hits)?;
     put_children(out, node.children.as_slice())?;
     put_lines(out, node.lines.as_slice())?;
     put_reason(alloc, out, &node.reason)?;
@@ -186,13 +186,13 @@ fn put_profile(alloc: Global, out: &mut Vec<u8>, profile: &Finished) -> Result<(
     put(out, "{\"nodes\":")?;
     put_nodes(alloc, out, profile.nodes.as_slice())?;
     put(out, ",\"startTime\":")?;
-    put_number(out, profile.start.value())?;
+    put_decimal(out, profile.start.value())?;
     put(out, ",\"endTime\":")?;
-    put_number(out, profile.end.value())?;
+    put_decimal(out, profile.end.value())?;
     put(out, ",\"samples\":")?;
-    put_ids(out, profile.samples.as_slice())?;
+    put_list(out, profile.samples.as_slice())?;
     put(out, ",\"timeDeltas\":")?;
-    put_deltas(out, profile.deltas.as_slice())?;
+    put_list(out, profile.deltas.as_slice())?;
     put(out, "}")
 }
 

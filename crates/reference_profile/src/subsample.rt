@@ -28,7 +28,11 @@ fn sum_after(rounded: u32, interval: u32, since: Option<u64>) -> Option<u64>
 }
 
 // The ticks that are kept of these, at a rounded interval.
-fn kept_ticks(alloc: Global, rounded: u32, ticks: &[ResolvedTick]) -> Result<Sequence<ResolvedTick>, Memory>
+fn kept_ticks(
+    alloc: Global,
+    rounded: u32,
+    ticks: &[ResolvedTick],
+) -> Result<Sequence<ResolvedTick>, Memory>
     ensures { IfOk result (λ found. found ≡ kept_by_sum rounded None ticks.now) }
 {
     let mut found = Sequence::new(alloc);
@@ -51,7 +55,11 @@ fn kept_ticks(alloc: Global, rounded: u32, ticks: &[ResolvedTick]) -> Result<Seq
 
 /// The ticks that a recording keeps: each of interval 0, and each at which the intervals since the
 /// last that was kept with one above 0 reach the session's.
-pub(crate) fn kept(alloc: Global, base: u32, begun: &Begun) -> Result<Sequence<ResolvedTick>, Memory>
+pub(crate) fn kept(
+    alloc: Global,
+    base: u32,
+    begun: &Begun,
+) -> Result<Sequence<ResolvedTick>, Memory>
     requires base_low { 1 ≤ base }
     requires base_high { base ≤ MAX_INTERVAL }
     ensures { IfOk result (λ found. found ≡ kept base begun.now) }

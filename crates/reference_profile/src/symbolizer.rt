@@ -7,15 +7,9 @@ ghost use Rattle.code_event.specs.Layout.{site_of, sites_above};
 ghost use Rattle.code_event.specs.Symbolizer.{unit_frame, slot_frames, holds, slot_at, range_frames, frames_at, caller_frames, stack_frames, special, special_frame, or_program, tick_frames};
 
 use crate::code_map::holds;
-use code_event::{Entry, Layout, Range, ResolvedFrame, Site, Slot, Tick, Unit, VmState};
+use code_event::{Entry, Layout, Range, ResolvedFrame, SLOT_SIZE, Site, Slot, Tick, Unit, VmState};
 use prof_base::{Memory, Sequence, Text, TextRefused};
 use std::alloc::Global;
-
-/// The bytes of a slot.
-const SLOT_SIZE: u32 = 4;
-
-/// The greatest number of units above one in a layout.
-const MOST_ABOVE: u8 = 4;
 
 /// The unit with this number, if there is one.
 fn unit_at(layout: &Layout, number: u16) -> Option<&Unit>
@@ -53,11 +47,15 @@ fn site_of(layout: &Layout, number: u16) -> Option<Site>
 }
 
 /// Adds each unit above the one with this number, at the line of the call that was inlined.
-fn push_units_above(frames: &mut Sequence<ResolvedFrame>, layout: &Layout, number: u16) -> Result<(), Memory>
-    ensures { OnOk result (frames.new ≡ frames.old ++ flat_map (λ site. unit_frame layout.now site.unit site.line) (sites_above 4 layout.now.units number)) }
+fn push_units_above(
+    frames: &mut Sequence<ResolvedFrame>,
+    layout: &Layout,
+    number: u16,
+) -> Result<(), Memory>
+    ensures { OnOk result (frames.new ≡ frames.old ++ flat_map (λ site. unit_frame layout.now site.unit site.line) (sites_above Layout.MAX_ABOVE layout.now.units number)) }
 {
     let mut below = number;
-    for _passed in 0..MOST_ABOVE {
+    for _passed in 0..Layout::MAX_ABOVE {
         match site_of(layout, below) {
             Some(site) => {
                 push_unit(frames, layout, site.unit, site.line)?;
@@ -70,7 +68,11 @@ fn push_units_above(frames: &mut Sequence<ResolvedFrame>, layout: &Layout, numbe
 }
 
 /// Adds the unit of a slot at the slot's line, then each unit above.
-fn push_slot(frames: &mut Sequence<ResolvedFrame>, layout: &Layout, slot: Slot) -> Result<(), Memory>
+fn push_slot(
+    frames: &mut Sequence<ResolvedFrame>,
+    layout: &Layout,
+    slot: Slot,
+) -> Result<(), Memory>
     ensures { OnOk result (frames.new ≡ frames.old ++ slot_frames layout.now slot) }
 {
     push_unit(frames, layout, slot.unit, slot.line)?;
@@ -93,7 +95,11 @@ fn range_around(ranges: &[Range], address: u32) -> Option<&Range>
 }
 
 /// Adds the functions at an address of a range.
-fn push_range_frames(frames: &mut Sequence<ResolvedFrame>, range: &Range, address: u32) -> Result<(), Memory>
+fn push_range_frames(
+    frames: &mut Sequence<ResolvedFrame>,
+    range: &Range,
+    address: u32,
+) -> Result<(), Memory>
     ensures { OnOk result (frames.new ≡ frames.old ++ range_frames address range.now) }
 {
     match slot_at(range, address) {
@@ -103,7 +109,11 @@ fn push_range_frames(frames: &mut Sequence<ResolvedFrame>, range: &Range, addres
 }
 
 /// Adds the functions at an address, if it is anybody's.
-fn push_frames_at(frames: &mut Sequence<ResolvedFrame>, ranges: &[Range], address: u32) -> Result<(), Memory>
+fn push_frames_at(
+    frames: &mut Sequence<ResolvedFrame>,
+    ranges: &[Range],
+    address: u32,
+) -> Result<(), Memory>
     ensures { OnOk result (frames.new ≡ frames.old ++ frames_at ranges.now address) }
 {
     match range_around(ranges, address) {
@@ -112,8 +122,12 @@ fn push_frames_at(frames: &mut Sequence<ResolvedFrame>, ranges: &[Range], addres
     }
 }
 
-/// Adds the functions at a return address: those of the call, which stands right before it.
-fn push_caller(frames: &mut Sequence<ResolvedFrame>, ranges: &[Range], address: u32) -> Result<(), Memory>
+/// Adds the functions at a return address: those of the call, which is right before it.
+fn push_caller(
+    frames: &mut Sequence<ResolvedFrame>,
+    ranges: &[Range],
+    address: u32,
+) -> Result<(), Memory>
     ensures { OnOk result (frames.new ≡ frames.old ++ caller_frames ranges.now address) }
 {
     if address == 0 {
@@ -123,7 +137,11 @@ fn push_caller(frames: &mut Sequence<ResolvedFrame>, ranges: &[Range], address: 
 }
 
 /// Adds the functions at each of these return addresses.
-fn push_callers(frames: &mut Sequence<ResolvedFrame>, ranges: &[Range], callers: &[u32]) -> Result<(), Memory>
+fn push_callers(
+    frames: &mut Sequence<ResolvedFrame>,
+    ranges: &[Range],
+    callers: &[u32],
+) -> Result<(), Memory>
     ensures { OnOk result (frames.new ≡ frames.old ++ flat_map (caller_frames ranges.now) callers.now) }
 {
     for caller in callers {
@@ -133,7 +151,11 @@ fn push_callers(frames: &mut Sequence<ResolvedFrame>, ranges: &[Range], callers:
 }
 
 /// The functions on a stack of addresses, both youngest first.
-fn stack_frames(alloc: Global, ranges: &[Range], addresses: &[u32]) -> Result<Sequence<ResolvedFrame>, Memory>
+fn stack_frames(
+    alloc: Global,
+    ranges: &[Range],
+    addresses: &[u32],
+) -> Result<Sequence<ResolvedFrame>, Memory>
     ensures { IfOk result (λ frames. frames ≡ stack_frames ranges.now addresses.now) }
 {
     let mut frames = Sequence::new(alloc);
@@ -166,7 +188,7 @@ fn text_of(alloc: Global, text: &str) -> Result<Text, Memory>
 }
 
 /// An entry that is no function, as V8 names it.
-fn special(alloc: Global, name: &str) -> Result<Entry, Memory>
+pub(crate) fn special(alloc: Global, name: &str) -> Result<Entry, Memory>
     requires { IsText name.now }
     ensures { IfOk result (λ entry. entry ≡ special name.now) }
 {
@@ -191,7 +213,10 @@ fn special_frame(alloc: Global, name: &str) -> Result<Sequence<ResolvedFrame>, M
 }
 
 /// These frames, or that of the program where there are none.
-fn or_program(alloc: Global, frames: Sequence<ResolvedFrame>) -> Result<Sequence<ResolvedFrame>, Memory>
+fn or_program(
+    alloc: Global,
+    frames: Sequence<ResolvedFrame>,
+) -> Result<Sequence<ResolvedFrame>, Memory>
     ensures { IfOk result (λ some. some ≡ or_program frames) }
 {
     if frames.is_empty() {

@@ -20,7 +20,7 @@ fn event(event: CodeEvent) -> Item {
 
 fn tick(time: u64, addresses: &[u32]) -> Item
     requires time { time < 100 }
-    requires few { length addresses.now ≤ 255 }
+    requires few { length addresses.now ≤ Frames.MAX_LEN }
 {
     let mut frames = Frames::new();
     for address in addresses {

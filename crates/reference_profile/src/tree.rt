@@ -1,10 +1,13 @@
 // The tree of a profile.
-ghost use Rattle.std.specs.Prelude.{◌≡◌, [], ◌==◌, ◌||◌, nat_lt, position, IfOk, OnOk};
-ghost use Rattle.code_event.specs.Tree.{is_before, same_path, prefixes, with_path, with_paths, nodes, id_of, hits, hits_at, hits_node, hit_lines, line_ticks, is_below, children, node_entry, with_number, fin_node, fin_nodes};
+ghost use Rattle.std.specs.Prelude.{◌≡◌, map, position, IfOk, OnOk};
+ghost use Rattle.std.specs.Ordering.{nat_cmp};
+ghost use Rattle.prof_base.specs.Ordered.{insert_sorted, stops};
+ghost use Rattle.code_event.specs.Tree.{path_cmp, prefixes, with_paths, nodes, id_of, hits, hits_at, hits_node, hit_lines, line_ticks, is_below, children, node_entry, fin_node};
 ghost use Rattle.code_event.specs.CodeMap.{same_entry};
 ghost use Rattle.code_event.specs.DeoptReasons.{reasons_in};
 
 use crate::path_order::{is_before, same_path};
+use crate::symbolizer::special;
 use code_event::{DeoptReason, Entry, FinNode, LineTicks, PathStep, Visit};
 use prof_base::{Memory, Sequence, Text};
 use std::alloc::Global;
@@ -19,9 +22,9 @@ fn copy_path(alloc: Global, path: &[PathStep]) -> Result<Sequence<PathStep>, Mem
     Ok(copy)
 }
 
-// The first place in a set at which the path itself or one behind it stands.
+// The first place in a set at which there is the path itself or a later one.
 fn path_place(set: &[Sequence<PathStep>], path: &[PathStep]) -> Option<usize>
-    ensures { result ≡ position (λ other. is_before path.now other || same_path path.now other) set.now }
+    ensures { result ≡ position (stops path_cmp path.now) set.now }
 {
     set.iter().position(|other| {
         is_before(path, other.as_slice()) || same_path(path, other.as_slice())
@@ -34,7 +37,7 @@ fn put_path(
     set: &mut Vec<Sequence<PathStep>>,
     path: &[PathStep],
 ) -> Result<(), Memory>
-    ensures { OnOk result (set.new.items ≡ with_path path.now set.old.items) }
+    ensures { OnOk result (set.new.items ≡ insert_sorted path_cmp path.now set.old.items) }
 {
     match path_place(set.as_slice(), path) {
         None => set.push(copy_path(alloc, path)?)?,
@@ -47,7 +50,7 @@ fn put_path(
     Ok(())
 }
 
-// Puts a path and all before it on the way to it into a set, the longest first.
+// Puts all prefixes of a path into a set, the longest first.
 fn put_prefixes(
     alloc: Global,
     set: &mut Vec<Sequence<PathStep>>,
@@ -74,7 +77,7 @@ pub(crate) fn nodes(alloc: Global, visits: &[Visit]) -> Result<Vec<Sequence<Path
     Ok(set)
 }
 
-/// A node's id: one more than the nodes before it. More nodes than ids is want of room.
+/// A node's id: one more than the nodes before it. More nodes than there are ids are out of memory.
 pub(crate) fn id_of(nodes: &[Sequence<PathStep>], node: &[PathStep]) -> Result<u32, Memory>
     ensures { IfOk result (λ id. id ≡ id_of nodes.now node.now) }
 {
@@ -112,7 +115,7 @@ fn hits_at(visits: &[Visit], node: &[PathStep], line: u32) -> u64
         .count() as u64
 }
 
-// Whether a node stands right below another.
+// Whether a node is right below another.
 fn is_below(parent: &[PathStep], node: &[PathStep]) -> bool
     ensures { result ≡ is_below parent.now node.now }
 {
@@ -139,18 +142,16 @@ fn children(
     Ok(ids)
 }
 
-// The first place in a set of numbers at which the number itself or a greater one stands.
+// The first place in a set of numbers at which there is the number itself or a greater one.
 fn number_place(numbers: &[u32], number: u32) -> Option<usize>
-    ensures { result ≡ position (λ other. nat_lt number other || number == other) numbers.now }
+    ensures { result ≡ position (stops nat_cmp number) numbers.now }
 {
-    numbers
-        .iter()
-        .position(|other| number < *other || number == *other)
+    numbers.iter().position(|other| number.cmp(other).is_le())
 }
 
 // Puts a number into a set of numbers, each once and rising.
 fn put_number(numbers: &mut Vec<u32>, number: u32) -> Result<(), Memory>
-    ensures { OnOk result (numbers.new.items ≡ with_number number numbers.old.items) }
+    ensures { OnOk result (numbers.new.items ≡ insert_sorted nat_cmp number numbers.old.items) }
 {
     match number_place(numbers.as_slice(), number) {
         None => numbers.push(number)?,
@@ -196,28 +197,12 @@ fn line_ticks(
     Ok(ticks)
 }
 
-// The entry of the root, which is no function.
-fn root_entry(alloc: Global) -> Result<Entry, Memory>
-    ensures { IfOk result (λ entry. entry ≡ node_entry []) }
-{
-    match (Text::new(alloc, b"(root)"), Text::new(alloc, b"")) {
-        (Ok(name), Ok(url)) => Ok(Entry {
-            name,
-            url,
-            script: 0,
-            line: 0,
-            column: 0,
-        }),
-        _ => Err(Memory),
-    }
-}
-
 // What a node is named by: its last step, or the root.
 fn node_entry(alloc: Global, node: &[PathStep]) -> Result<Entry, Memory>
     ensures { IfOk result (λ entry. entry ≡ node_entry node.now) }
 {
     match node {
-        [] => root_entry(alloc),
+        [] => special(alloc, "(root)"),
         [.., last] => last.entry.copy(),
     }
 }
@@ -264,18 +249,18 @@ fn fin_node(
     })
 }
 
-/// The finished nodes of a tree, in order, with the reasons of which the first of an entry counts.
+/// The finished nodes, in order, with the reasons of which the first of an entry counts.
 pub(crate) fn fin_nodes(
     alloc: Global,
+    nodes: &[Sequence<PathStep>],
     visits: &[Visit],
     reasons: &[DeoptReason],
 ) -> Result<Sequence<FinNode>, Memory>
-    ensures { IfOk result (λ finished. finished ≡ fin_nodes visits.now (reasons_in reasons.now)) }
+    ensures { IfOk result (λ finished. finished ≡ map (fin_node nodes.now visits.now (reasons_in reasons.now)) nodes.now) }
 {
-    let set = nodes(alloc, visits)?;
     let mut finished = Sequence::new(alloc);
-    for node in set.as_slice() {
-        finished.push(fin_node(alloc, set.as_slice(), visits, reasons, node.as_slice())?)?;
+    for node in nodes {
+        finished.push(fin_node(alloc, nodes, visits, reasons, node.as_slice())?)?;
     }
     Ok(finished)
 }

@@ -1,7 +1,7 @@
 // Laws of events, items and ticks.
 ghost use Rattle.code_event.specs.Laws.{AddressesHaveOneOwner, KeptTicksAreTheirOwn, MeetingIsMutual, RangesAreDisjoint, RecordingsAreTheirOwn, StampedListsAreOne, StampingGivesStamps, StampingKeepsStamped};
 
-/// No two code objects ever share an address: none meets one that stands behind it, meeting goes both
+/// No two code objects ever share an address: none meets one after it in the list, meeting goes both
 /// ways, and each address is in at most one.
 pub fn ranges_are_disjoint()
     ensures disjoint { RangesAreDisjoint }

@@ -4,7 +4,8 @@ ghost use Rattle.std.specs.List.{All, Contains, slice_get, sum_by};
 ghost use Rattle.code_event.specs.DeoptReasons.{DeoptReasons};
 ghost use Rattle.code_event.specs.Tree.{nodes, id_of, is_below, hits, hits_at, line_ticks, fin_nodes};
 ghost use Rattle.code_event.specs.Profile.{samples};
-ghost use Rattle.code_event.specs.TreeLaws.{numbers_from, BeginsSome, HasOneParent};
+ghost use Rattle.code_event.specs.TreeLaws.{BeginsSome, HasOneParent};
+ghost use Rattle.prof_base.specs.Ordered.{numbers_from};
 ghost use Rattle.code_event.specs.declared.path.PathStep.{PathStep};
 ghost use Rattle.code_event.specs.declared.visit.Visit.{Visit};
 

@@ -23,7 +23,7 @@ returns c =
     c.put.new.out.items
     c.put_string.new.out.items
     c.put-2.new.out.items
-    c.put_number.new.out.items
+    c.put_decimal.new.out.items
     c.put-3.new.out.items
     c.put_string-2.new.out.items
     c.put-4.new.out.items
@@ -34,7 +34,7 @@ returns c =
     c.in_ok-put.ensures
     c.in_ok-put_string.ensures
     c.in_ok-put-2.ensures
-    (c.in_ok-put_number.ensures ∙ ap (λ x. c.put-2.new.out.items ++ decimal x) c.from.ensures)
+    (c.in_ok-put_decimal.ensures ∙ ap (λ x. c.put-2.new.out.items ++ decimal x) c.from.ensures)
     c.in_ok-put-3.ensures
     c.in_ok-put_string-2.ensures
     c.in_ok-put-4.ensures

@@ -6,7 +6,7 @@ use Rattle.reference_profile.proofs.profile_text.put_lines.Goals as goal
 
 pub returns-in_ok-put-in-len1-up : goal.returns-in_ok-put-in-len1-up
 returns-in_ok-put-in-len1-up c =
-    on_ok_weaker c.put_line_list.result
-    (λ last. appended_2 c.args.out.now.items (codes ",\"positionTicks\":") (list_text (map line_text c.args.lines.now)) c.put.new.out.items c.put_line_list.new.out.items c.in_ok-put-in-len1-up.ensures last
+    on_ok_weaker c.put_list.result
+    (λ last. appended_2 c.args.out.now.items (codes ",\"positionTicks\":") (list_text (map line_text c.args.lines.now)) c.put.new.out.items c.put_list.new.out.items c.in_ok-put-in-len1-up.ensures last
     ∙ ap (λ text. c.args.out.now.items ++ text) (lines_text-some c.args.lines.now (omega arith)))
-    c.put_line_list.ensures
+    c.put_list.ensures

@@ -19,22 +19,22 @@ returns c =
     (reason_text c.args.node.now.reason)
     (codes "}")
     c.put.new.out.items
-    c.put_number.new.out.items
+    c.put_decimal.new.out.items
     c.put-2.new.out.items
     c.put_call_frame.new.out.items
     c.put-3.new.out.items
-    c.put_number-2.new.out.items
+    c.put_decimal-2.new.out.items
     c.put_children.new.out.items
     c.put_lines.new.out.items
     c.put_reason.new.out.items
     c.put-4.new.out.items
     c.in_ok-put.ensures
-    c.in_ok-put_number.ensures
+    c.in_ok-put_decimal.ensures
     c.in_ok-put-2.ensures
     c.in_ok-put_call_frame.ensures
     c.in_ok-put-3.ensures
-    c.in_ok-put_number-2.ensures
-    (c.in_ok-put_children.ensures ∙ ap (λ x. c.put_number-2.new.out.items ++ children_text x) c.as_slice.ensures)
+    c.in_ok-put_decimal-2.ensures
+    (c.in_ok-put_children.ensures ∙ ap (λ x. c.put_decimal-2.new.out.items ++ children_text x) c.as_slice.ensures)
     (c.in_ok-put_lines.ensures ∙ ap (λ x. c.put_children.new.out.items ++ lines_text x) c.as_slice-2.ensures)
     c.in_ok-put_reason.ensures last)
     c.put-4.ensures

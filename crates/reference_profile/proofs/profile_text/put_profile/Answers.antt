@@ -22,22 +22,22 @@ returns c =
     c.put.new.out.items
     c.put_nodes.new.out.items
     c.put-2.new.out.items
-    c.put_number.new.out.items
+    c.put_decimal.new.out.items
     c.put-3.new.out.items
-    c.put_number-2.new.out.items
+    c.put_decimal-2.new.out.items
     c.put-4.new.out.items
-    c.put_ids.new.out.items
+    c.put_list.new.out.items
     c.put-5.new.out.items
-    c.put_deltas.new.out.items
+    c.put_list-2.new.out.items
     c.put-6.new.out.items
     c.in_ok-put.ensures
     (c.in_ok-put_nodes.ensures ∙ ap (λ x. c.put.new.out.items ++ list_text (node_texts 1 x)) c.as_slice.ensures)
     c.in_ok-put-2.ensures
-    (c.in_ok-put_number.ensures ∙ ap (λ x. c.put-2.new.out.items ++ decimal x) c.value.ensures.value)
+    (c.in_ok-put_decimal.ensures ∙ ap (λ x. c.put-2.new.out.items ++ decimal x) c.value.ensures.value)
     c.in_ok-put-3.ensures
-    (c.in_ok-put_number-2.ensures ∙ ap (λ x. c.put-3.new.out.items ++ decimal x) c.value-2.ensures.value)
+    (c.in_ok-put_decimal-2.ensures ∙ ap (λ x. c.put-3.new.out.items ++ decimal x) c.value-2.ensures.value)
     c.in_ok-put-4.ensures
-    (c.in_ok-put_ids.ensures ∙ ap (λ x. c.put-4.new.out.items ++ list_text (map decimal x)) c.as_slice-2.ensures)
+    (c.in_ok-put_list.ensures ∙ ap (λ x. c.put-4.new.out.items ++ list_text (map decimal x)) c.as_slice-2.ensures)
     c.in_ok-put-5.ensures
-    (c.in_ok-put_deltas.ensures ∙ ap (λ x. c.put-5.new.out.items ++ list_text (map decimal x)) c.as_slice-3.ensures) last)
+    (c.in_ok-put_list-2.ensures ∙ ap (λ x. c.put-5.new.out.items ++ list_text (map decimal x)) c.as_slice-3.ensures) last)
     c.put-6.ensures

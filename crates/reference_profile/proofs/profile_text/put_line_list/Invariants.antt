@@ -1,7 +1,0 @@
-use Rattle.std.proofs.Common.{◌≡◌, ◌++◌, take, map, codes}
-use Rattle.std.specs.List.{join_with_byte}
-use Rattle.code_event.specs.FileText.{line_text}
-use Rattle.reference_profile.proofs.profile_text.put_line_list.Given as goal
-
-abbrev pub invariant-loop-at : goal.invariant-loop-at
-invariant-loop-at l = l.out.items ≡ l.fn.out.items ++ (codes "[" ++ join_with_byte 44 (map line_text (take l.at l.lines)))
