@@ -1,6 +1,7 @@
 //! What the program `cpuprof` does with the words of its command line: it makes the real objects and
 //! calls the profiler.
 #![tactic(auto)]
+
 ghost use Rattle.std.specs.Prelude.{◌≡◌, ◌⊎◌, map, string_bytes};
 ghost use Rattle.prof_top.specs.Command.{IsCommand};
 ghost use Rattle.prof_top.specs.Status.{IsStatus};
@@ -15,7 +16,6 @@ pub const OUT_OF_MEMORY: u8 = 6;
 
 /// The number of the program's stream: its files are `cpuprof-1-1.cpuprofile` and so on.
 const STREAM: u8 = 1;
-
 
 /// Does what the words say, over the files of the current folder. It writes finished files there,
 /// prints to `out`, writes the line of error to `err`, and answers the exit status.

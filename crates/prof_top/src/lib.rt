@@ -13,4 +13,3 @@ mod words;
 
 pub use call::{Outcome, cpuprof_once};
 pub use recording::{BUDGET, ENTRIES};
-

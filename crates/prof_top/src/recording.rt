@@ -12,7 +12,7 @@ ghost use Rattle.prof_top.specs.StepClock.{entry_at, is_asked, IsWholeRecording}
 ghost use Rattle.prof_top.specs.Straight.{IsAfter};
 
 use crate::machine::Machine;
-use code_event::{Mode, Options, Seen, ResolvedTick};
+use code_event::{Mode, Options, ResolvedTick, Seen};
 use guest_text::Program;
 use prof_base::{MAX_INTERVAL, Memory, Micros, Sequence, SessionId};
 use record_text::{DEFAULT_RING, EndCause, Schedule, ScheduleEntry, What};

@@ -16,12 +16,12 @@ ghost use Rattle.prof_top.specs.Schedules.{HasSchedules};
 use crate::ending::Ending;
 use crate::printing::{printed, schedule_lines};
 use crate::recording::{RecordedRun, SESSION, record};
-use reference_profile::file;
 use guest_text::Program;
 use out_stream::{OutputStream, Undelivered};
 use prof_base::{MAX_INTERVAL, Memory, Sequence};
 use prof_outer::{Sink, SinkFault};
 use record_text::Schedule;
+use reference_profile::file;
 use std::alloc::Global;
 
 /// What has come of a call: how it ended, and the schedules of the runs that took place.
