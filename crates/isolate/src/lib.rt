@@ -1,5 +1,5 @@
-//! An isolate: a guest machine with its recordings. What a schedule has to do with the guest's
-//! program, and what the files of a run are, stands here as a definition.
+//! An isolate: a guest machine with its recordings. The definitions say which schedules a guest's
+//! program comes to, and what the files of a run are.
 #![tactic(auto)]
 
 pub mod examples;

@@ -26,22 +26,22 @@ gcd_is (suc times) a b enough =
     IsGcd-from_mod a b (gcd_within times b (a % b)) (gcd_is times b (a % b) less))
 
 -- one interval more
-source_of_more : (base interval source next : ℕ) (front : List ℕ) → IsSourceInterval base front source → IsGcd source (rounded_of base interval) next → IsSourceInterval base (front ++ interval ∷ []) next
-source_of_more base interval source next front is divides =
-    let longer = front ++ interval ∷ [] in
-    let size : length longer ≡ length front + 1 = length-append front (interval ∷ []) in
-    let before : IsSourceInterval base (take (length front) longer) source = subst (λ xs. IsSourceInterval base xs source) (sym (take-append_seam front (interval ∷ []))) is in
-    let rounded : rounded_of base interval ≡ rounded_of base (get_or longer (length front) 0) = ap (rounded_of base) (sym (get_or_push front interval 0 (length front) refl)) in
-    subst (λ xs. IsSourceInterval base xs next) (take_all (length front + 1) longer (omega (arith, size)))
-    (source_of_next base (length front) source (rounded_of base interval) next longer (omega (arith, size)) before divides rounded)
+source_of_more : (base interval source next : ℕ) (prefix : List ℕ) → IsSourceInterval base prefix source → IsGcd source (rounded_of base interval) next → IsSourceInterval base (prefix ++ interval ∷ []) next
+source_of_more base interval source next prefix is divides =
+    let longer = prefix ++ interval ∷ [] in
+    let size : length longer ≡ length prefix + 1 = length-append prefix (interval ∷ []) in
+    let before : IsSourceInterval base (take (length prefix) longer) source = subst (λ xs. IsSourceInterval base xs source) (sym (take-append_seam prefix (interval ∷ []))) is in
+    let rounded : rounded_of base interval ≡ rounded_of base (get_or longer (length prefix) 0) = ap (rounded_of base) (sym (get_or_push prefix interval 0 (length prefix) refl)) in
+    subst (λ xs. IsSourceInterval base xs next) (take_all (length prefix + 1) longer (omega (arith, size)))
+    (source_of_next base (length prefix) source (rounded_of base interval) next longer (omega (arith, size)) before divides rounded)
 
-source_is : (base source : ℕ) (front intervals : List ℕ) → IsSourceInterval base front source → IsSourceInterval base (front ++ intervals) (source_with base source intervals)
-source_is base source front [] is = subst (λ xs. IsSourceInterval base xs source) (sym (append-nil front)) is
-source_is base source front (interval ∷ intervals) is =
+source_is : (base source : ℕ) (prefix intervals : List ℕ) → IsSourceInterval base prefix source → IsSourceInterval base (prefix ++ intervals) (source_with base source intervals)
+source_is base source prefix [] is = subst (λ xs. IsSourceInterval base xs source) (sym (append-nil prefix)) is
+source_is base source prefix (interval ∷ intervals) is =
     let rounded = rounded_of base interval in
     let next = gcd source rounded in
-    let more : IsSourceInterval base (front ++ interval ∷ []) next = source_of_more base interval source next front is (gcd_is (suc rounded) source rounded (omega arith)) in
-    subst (λ xs. IsSourceInterval base xs (source_with base next intervals)) (append_assoc front (interval ∷ []) intervals) (source_is base next (front ++ interval ∷ []) intervals more)
+    let more : IsSourceInterval base (prefix ++ interval ∷ []) next = source_of_more base interval source next prefix is (gcd_is (suc rounded) source rounded (omega arith)) in
+    subst (λ xs. IsSourceInterval base xs (source_with base next intervals)) (append_assoc prefix (interval ∷ []) intervals) (source_is base next (prefix ++ interval ∷ []) intervals more)
 
 pub sources_are_greatest : SourcesAreGreatest
 sources_are_greatest base intervals = source_is base 0 [] intervals (record { common = tt; greatest = λ d h. dvd-zero d })

@@ -1,4 +1,4 @@
--- Small schedules that were held against the rules by hand.
+-- Small schedules that were checked against the rules by hand.
 use Rattle.std.proofs.Common.{lit≤}
 use Rattle.std.specs.Prelude.{ℕ, ◌≤◌, List, [], ◌∷◌, None}
 use Rattle.code_event.specs.declared.event.Mode.TheVariants.{Leaf}
@@ -13,7 +13,7 @@ use Rattle.record_text.specs.ScheduleParts.{ScheduleParts}
 abbrev pub start_every : (interval : ℕ) → 1 ≤ interval → interval ≤ 1000000000 → What
 start_every interval low high = Start (record { port = 0; interval = interval; mode = Leaf; max_samples = None; low = low; high = high })
 
--- what came about at a step, and as many microseconds after the start
+-- what came about at a step, with the step as its time in microseconds
 abbrev pub at : ℕ → What → ScheduleEntry
 at step what = record { step = step; time = step; what = what }
 
@@ -25,7 +25,7 @@ started = at 0 (start_every 1 (lit≤ tt) (lit≤ tt))
 abbrev pub with_entries : List ScheduleEntry → ScheduleParts
 with_entries entries = record { base = 1; ring = 1; budget = 10; limit = 5; entries = entries }
 
--- its last place is taken by an end that says so
+-- an end for the cause `full` takes the last place
 abbrev pub full_at_its_limit : ScheduleParts
 full_at_its_limit = with_entries (started ∷ at 1 Sampled ∷ at 2 Dropped ∷ at 3 (Stop 0 (session 1)) ∷ at 3 (End cause.Full) ∷ [])
 
@@ -49,11 +49,11 @@ sampled_for_no_session = with_entries (at 1 Sampled ∷ at 2 (End cause.Halt) �
 abbrev pub sampled_twice_at_a_step : ScheduleParts
 sampled_twice_at_a_step = with_entries (started ∷ at 1 Sampled ∷ at 1 Sampled ∷ at 2 (End cause.Halt) ∷ [])
 
--- the end says that there is no room, and there is
+-- the end has the cause `full`, and there is room
 abbrev pub full_before_its_limit : ScheduleParts
 full_before_its_limit = with_entries (started ∷ at 1 Sampled ∷ at 1 (End cause.Full) ∷ [])
 
--- the last place is taken by an end that does not say so
+-- an end for another cause takes the last place
 abbrev pub halted_at_its_limit : ScheduleParts
 halted_at_its_limit = with_entries (started ∷ at 1 Sampled ∷ at 2 Dropped ∷ at 3 (Stop 0 (session 1)) ∷ at 3 (End cause.Halt) ∷ [])
 
@@ -61,9 +61,9 @@ halted_at_its_limit = with_entries (started ∷ at 1 Sampled ∷ at 2 Dropped �
 abbrev pub without_an_end : ScheduleParts
 without_an_end = with_entries (started ∷ at 1 Sampled ∷ [])
 
--- a sample stands behind the end
-abbrev pub sampled_behind_its_end : ScheduleParts
-sampled_behind_its_end = with_entries (started ∷ at 1 Sampled ∷ at 2 (End cause.Halt) ∷ at 3 Sampled ∷ [])
+-- a sample follows the end
+abbrev pub sampled_after_its_end : ScheduleParts
+sampled_after_its_end = with_entries (started ∷ at 1 Sampled ∷ at 2 (End cause.Halt) ∷ at 3 Sampled ∷ [])
 
 -- a sample is taken when there are no steps left
 abbrev pub sampled_at_its_budget : ScheduleParts

@@ -1,4 +1,4 @@
--- The rules of a schedule: each entry is held against all entries before it.
+-- The rules of a schedule. Each entry is checked against all entries before it.
 use Rattle.std.specs.Prelude.{◌≡◌, ℕ, suc, ◌<◌, ◌≤◌, List, [], ◌∷◌, ◌++◌, length, filter, count_by, Contains, Bool, true, false, not, ◌||◌, ◌==◌, Option, Some, None}
 use Rattle.std.specs.List.{AllByRecursion}
 use Rattle.record_text.specs.declared.schedule.EndCause.{EndCause}
@@ -14,12 +14,12 @@ pub record Running : Type 0 where
   pub port : ℕ
   pub interval : ℕ
 
--- how many sessions were started, and those that run, by rising number
+-- the number of sessions that were started, and those that run, by rising number
 pub record Course : Type 0 where
   pub started : ℕ
   pub running : List Running
 
--- what an entry makes of the sessions; they are numbered by their starts, from 1
+-- the sessions after one more entry; they are numbered by their starts, from 1
 abbrev pub course_after : Course → What → Course
 course_after course (Start options) =
     record {
@@ -37,7 +37,7 @@ course_on course (entry ∷ entries) = course_on (course_after course entry.what
 abbrev pub running_after : List ScheduleEntry → List Running
 running_after entries = (course_on (record { started = 0; running = [] }) entries).running
 
--- an entry was to be a sample
+-- whether it is a sample, taken or dropped
 abbrev pub is_sample : What → Bool
 is_sample Sampled = true
 is_sample Dropped = true
@@ -57,7 +57,7 @@ port_of (Start options) = Some options.port
 port_of (Stop port session) = Some port
 port_of other = None
 
--- the rule Order, of an entry and one before it: neither step nor time falls, nothing stands behind an end, only an end stands behind a sample of its step, and of one step the commands stand by rising port
+-- the rule Order, of an entry and one before it: neither step nor time falls, nothing follows an end, only an end follows a sample at the same step, and the commands at one step come by rising port
 pub record MayStandBehind (entry before : ScheduleEntry) : Type 0 where
   pub step : before.step ≤ entry.step
   pub time : before.time ≤ entry.time
@@ -68,7 +68,7 @@ pub record MayStandBehind (entry before : ScheduleEntry) : Type 0 where
 abbrev pub IsInOrder : List ScheduleEntry → ScheduleEntry → Type 0
 IsInOrder before entry = AllByRecursion (MayStandBehind entry) before
 
--- the rule Session, while these run: a sample is for some session, at most 100 run, and a session is stopped while it runs, by its own port
+-- the rule Session, while these run: a sample is taken or dropped only while some session runs, at most 100 run at once, and a session is stopped while it runs, from the port that started it
 abbrev pub HasSession : List Running → What → Type 0
 HasSession running Sampled = 1 ≤ length running
 HasSession running Dropped = 1 ≤ length running
@@ -82,11 +82,11 @@ IsAtLastStep [] step = Unit {0}
 IsAtLastStep (entry ∷ []) step = entry.step ≡ step
 IsAtLastStep (entry ∷ next ∷ entries) step = IsAtLastStep (next ∷ entries) step
 
--- the rule Limit of an entry with this number that is no end: there is room for an end behind it, and it is within the budget
+-- the rule Limit of an entry with this number that is no end: it leaves room for an end, and its step is below the budget
 abbrev pub LeavesRoom : ScheduleParts → ℕ → ℕ → Type 0
 LeavesRoom schedule number step = (number < schedule.limit) × (step < schedule.budget)
 
--- the rule Limit of an end with this number: it is `full` just where it takes the last place, and then it is at the step before it; it is `budget` only where the steps have reached the budget
+-- the rule Limit of an end with this number: its cause is `full` exactly where it takes the last place, and then it has the step of the entry before it; its cause is `budget` only where the steps have reached the budget
 abbrev pub IsEndWithin : ScheduleParts → List ScheduleEntry → ℕ → ℕ → EndCause → Type 0
 IsEndWithin schedule before number step cause.Full = (number ≡ schedule.limit) × IsAtLastStep before step × (step ≤ schedule.budget)
 IsEndWithin schedule before number step cause.Budget = (number < schedule.limit) × (step ≡ schedule.budget)
@@ -98,13 +98,13 @@ IsWithinLimits schedule before step Dropped = LeavesRoom schedule (suc (length b
 IsWithinLimits schedule before step (End cause) = IsEndWithin schedule before (suc (length before)) step cause
 IsWithinLimits schedule before step other = LeavesRoom schedule (suc (length before)) step
 
--- an entry keeps the rules behind these
+-- an entry keeps the rules after these
 pub record MayFollow (schedule : ScheduleParts) (before : List ScheduleEntry) (entry : ScheduleEntry) : Type 0 where
   pub order : IsInOrder before entry
   pub session : HasSession (running_after before) entry.what
   pub limit : IsWithinLimits schedule before entry.step entry.what
 
--- each of these entries keeps the rules behind those before it, the first behind `before`
+-- each of these entries keeps the rules after those before it, the first after `before`
 abbrev pub EachMayFollow : ScheduleParts → List ScheduleEntry → List ScheduleEntry → Type 0
 EachMayFollow schedule before [] = Unit {0}
 EachMayFollow schedule before (entry ∷ entries) = MayFollow schedule before entry × EachMayFollow schedule (before ++ entry ∷ []) entries
@@ -113,7 +113,7 @@ abbrev pub has_end : List ScheduleEntry → Bool
 has_end [] = false
 has_end (entry ∷ entries) = is_end entry.what || has_end entries
 
--- a schedule that keeps the rules Order, Session and Limit
+-- a schedule that has an end, and whose entries keep the rules Order, Session and Limit
 pub record IsLegalSchedule (schedule : ScheduleParts) : Type 0 where
   pub each : EachMayFollow schedule [] schedule.entries
   pub ended : has_end schedule.entries ≡ true

@@ -4,7 +4,7 @@ use Rattle.prof_base.specs.Interval.{rounded_of, IsSourceInterval}
 use Rattle.record_text.specs.ScheduleParts.{ScheduleParts}
 use Rattle.record_text.specs.Schedule.{Running, running_after}
 
--- Euclid's remainders, so many at most
+-- Euclid's algorithm, with at most this many remainders
 abbrev pub gcd_within : ℕ → ℕ → ℕ → ℕ
 gcd_within zero a b = a
 gcd_within (suc times) a b = if b == 0 then a else gcd_within times b (a % b)
@@ -26,7 +26,7 @@ source_of base intervals = source_with base 0 intervals
 abbrev pub source_for : ℕ → List Running → ℕ
 source_for base running = source_of base (map (λ session. session.interval) running)
 
--- the source interval after so many entries
+-- the source interval after the first `number` entries
 abbrev pub source_after : ScheduleParts → ℕ → ℕ
 source_after schedule number = source_for schedule.base (running_after (take number schedule.entries))
 

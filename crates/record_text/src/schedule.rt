@@ -1,4 +1,4 @@
-// Schedules: what an isolate did of its own accord, and when.
+// Schedules: what an isolate did, and when.
 ghost use Rattle.std.specs.Prelude.{◌≡◌, ◌↔◌, ◌<◌, ◌≤◌, [], ◌∷◌, ◌++◌, false, length, IfOk, IsTrue};
 
 use crate::limits::{MAX_BUDGET, MAX_ENTRIES, MAX_RING, MIN_ENTRIES};
