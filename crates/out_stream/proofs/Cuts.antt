@@ -30,9 +30,9 @@ cut_short size (suc n) count more short is =
 -- the first chunk, and the cut of what is left
 pub cut_next : (size bytes count : ℕ) → 1 ≤ size → 1 ≤ bytes → count ≡ min size bytes → cut size bytes ≡ count ∷ cut size (bytes - count)
 cut_next size bytes count some more is = elim (cases_lt bytes size) [
-    | inl short ↦ cut_short size bytes count more short (omega arith)
-    | inr whole ↦ let e : count ≡ size = omega arith in cut_whole size bytes some whole ∙ ap (λ k. k ∷ cut size (bytes - k)) (sym e)
-  ]
+  | inl short ↦ cut_short size bytes count more short (omega arith)
+  | inr whole ↦ let e : count ≡ size = omega arith in cut_whole size bytes some whole ∙ ap (λ k. k ∷ cut size (bytes - k)) (sym e)
+]
 
 -- whole chunks, and perhaps one that is shorter
 sum_of_whole : (size q r : ℕ) → sum (repeat q (size ∷ []) ++ last_chunk r) ≡ size * q + r
