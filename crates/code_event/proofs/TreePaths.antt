@@ -1,5 +1,5 @@
 -- Paths: those that the order does not distinguish are equal; what their prefixes are; and where one is right above another.
-use Rattle.std.proofs.Common.{◌≡◌, suc, ◌-◌, List, [], ◌∷◌, ◌++◌, length, map, take, inl, inr, ◌&&◌, Bool, true, false, true≢false, eqb, eqb-true, Ordering, Less, Equal, Greater, is_lt, is_gt, is_eq, refl, sym, ap, ap₂, ◌∙◌, subst, arith}
+use Rattle.std.proofs.Common.{◌≡◌, suc, ◌-◌, List, [], ◌∷◌, ◌++◌, length, map, take, inl, inr, true, true≢false, eqb, eqb-true, Ordering, Less, Equal, Greater, is_lt, is_gt, is_eq, refl, sym, ap, ap₂, ◌∙◌, subst, arith}
 use Rattle.std.specs.Ordering.{ordering_then}
 use Rattle.std.specs.Cmp.{IsTotalOrder}
 use Rattle.std.specs.Cmp.Lexicographic.{slice_cmp}

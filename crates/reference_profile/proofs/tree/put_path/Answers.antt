@@ -1,6 +1,5 @@
 use Rattle.std.proofs.Common.{[], ◌∷◌, ◌++◌, ◌∙◌, ap, sym}
 use Rattle.std.specs.List.{position, insert}
-use Rattle.std.specs.Ordering.{is_eq}
 use Rattle.prof_base.specs.Ordered.{stops}
 use Rattle.prof_base.proofs.Ordered.{insert_sorted-last, insert_sorted-insert, insert_sorted-same}
 use Rattle.code_event.specs.Tree.{path_cmp, same_path}
