@@ -25,6 +25,3 @@ pub use recording::{Begun, Recording};
 pub use seen::{DeoptReason, ResolvedFrame, ResolvedTick, Seen};
 pub use tick::{Frames, Item, Tick, VmState};
 pub use visit::Visit;
-
-#[cfg(test)]
-mod tests;

@@ -16,7 +16,4 @@ pub use program::Program;
 pub use reading::read_program;
 pub use refused::{ProgramCause, ProgramRefused};
 pub use reg::Reg;
-pub use writing::write_program;
-
-#[cfg(test)]
-mod tests;
+pub use writing::{write_functions, write_program};

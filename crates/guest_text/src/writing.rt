@@ -194,7 +194,9 @@ fn put_func(out: &mut Vec<u8>, funcs: &[Func], func: &Func) -> Result<(), AllocE
     put_body(out, funcs, func.body.as_slice())
 }
 
-pub(crate) fn written(alloc: Global, funcs: &[Func]) -> Result<Vec<u8>, AllocError>
+/// The canonical text of functions, in order, of which each call names one of these. Of a program's
+/// functions it is the program's text.
+pub fn write_functions(alloc: Global, funcs: &[Func]) -> Result<Vec<u8>, Memory>
     ensures { IfOk result (λ text. text.items ≡ program_text funcs.now) }
 {
     let mut out = Vec::new(alloc);
@@ -209,5 +211,5 @@ pub(crate) fn written(alloc: Global, funcs: &[Func]) -> Result<Vec<u8>, AllocErr
 pub fn write_program(alloc: Global, program: &Program) -> Result<Vec<u8>, Memory>
     ensures { IfOk result (λ text. text.items ≡ program_text program.now) }
 {
-    Ok(written(alloc, program.funcs())?)
+    write_functions(alloc, program.funcs())
 }

@@ -11,6 +11,3 @@ mod schedule;
 pub use limits::{DEFAULT_RING, MAX_BUDGET, MAX_ENTRIES, MAX_PORT, MAX_RING, MIN_ENTRIES};
 pub use refused::{LineCause, ReadRefused};
 pub use schedule::{EndCause, Schedule, ScheduleEntry, What};
-
-#[cfg(test)]
-mod tests;

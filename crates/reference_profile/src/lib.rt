@@ -17,6 +17,3 @@ mod tree;
 pub use moment::seen_items;
 pub use profile::{file, finished_of};
 pub use profile_text::file_text;
-
-#[cfg(test)]
-mod tests;

@@ -2,11 +2,11 @@
 // hand.
 ghost use Rattle.std.specs.Prelude.{◌≡◌, ◌<◌, ◌≤◌, length};
 
-use crate::{file, finished_of, seen_items};
 use code_event::{
     CodeEvent, Entry, EventRecord, Frames, Item, Layout, Mode, Options, Slot, Tick, Unit, VmState,
 };
 use prof_base::{FuncId, Micros, Sequence, SessionId, Text};
+use reference_profile::{file, finished_of, seen_items};
 use std::alloc::Global;
 use std::test::Fail;
 

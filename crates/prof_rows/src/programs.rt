@@ -1,7 +1,5 @@
 // Writing what is not read yet. What is read and what is refused is tried in `guest_text_cases`.
-use crate::instr::{Func, Instr, Op};
-use crate::reg::Reg;
-use crate::writing::written;
+use guest_text::{Func, Instr, Op, Reg, write_functions};
 use prof_base::{FuncId, Sequence, Text};
 use std::alloc::Global;
 use std::test::Fail;
@@ -50,7 +48,7 @@ fn writes_each_operation(rt: HostRuntime) -> Result<(), Fail> {
         inline: true,
         body: each_operation(alloc)?,
     };
-    let text = written(alloc, std::slice::from_ref(&func))?;
+    let text = write_functions(alloc, std::slice::from_ref(&func))?;
     let wanted: &[u8] = b"func f_1 \"\\\"\" \"\" 0 1 2 inline\n\
         1 set r0 5\n1 add r0 r7\n1 sub r0 r7\n1 mul r0 r7\n1 lt r0 r7\n\
         1 jump 3\n1 jz r7 3\n1 call f_1\n1 ret\n1 print r7\n1 halt\n1 opt f_1\n\

@@ -1,5 +1,5 @@
 // What no clause says: that copies succeed.
-use crate::{
+use code_event::{
     CodeEvent, DeoptReason, Entry, Frames, Layout, PathStep, ResolvedFrame, Slot, Tick, Unit,
     VmState,
 };

@@ -1,5 +1,5 @@
 use Rattle.std.proofs.Common.{◌≡◌, take}
-use Rattle.reference_profile.proofs.tests.tick.Given as goal
+use Rattle.prof_rows.proofs.profiles.tick.Given as goal
 
 abbrev pub invariant-loop-address : goal.invariant-loop-address
 invariant-loop-address l = l.frames ≡ take l.address-index l.addresses

@@ -1,7 +1,8 @@
-use crate::{
+// Schedules at both ends of each range.
+use prof_base::{MAX_INTERVAL, Micros};
+use record_text::{
     EndCause, MAX_BUDGET, MAX_ENTRIES, MAX_RING, MIN_ENTRIES, Schedule, ScheduleEntry, What,
 };
-use prof_base::{MAX_INTERVAL, Micros};
 use std::test::Fail;
 
 #[test]
