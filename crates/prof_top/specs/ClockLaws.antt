@@ -1,6 +1,7 @@
 -- What holds of the schedules of the step clock, whatever the program.
 use Rattle.std.specs.Prelude.{◌≡◌, ℕ, ◌≤◌, List}
 use Rattle.guest_text.specs.declared.instr.Func.{Func}
+use Rattle.prof_base.specs.declared.interval.TheConstants.{MAX_INTERVAL}
 use Rattle.isolate.specs.Fits.{Fits}
 use Rattle.record_text.specs.Schedule.{IsLegalSchedule}
 use Rattle.record_text.specs.ScheduleParts.{ScheduleParts}
@@ -17,7 +18,7 @@ ClocksFit = (funcs : List Func) (every : ℕ) (schedule : ScheduleParts) → 1 �
 
 -- each run has one, at every interval that a session may have
 abbrev pub ClocksRun : Type 0
-ClocksRun = (funcs : List Func) (every budget limit : ℕ) → 1 ≤ every → every ≤ 1000000000 → (entries : List ScheduleEntry) × IsStepClock funcs every budget limit entries
+ClocksRun = (funcs : List Func) (every budget limit : ℕ) → 1 ≤ every → every ≤ MAX_INTERVAL → (entries : List ScheduleEntry) × IsStepClock funcs every budget limit entries
 
 -- and no other
 abbrev pub ClocksAgree : Type 0

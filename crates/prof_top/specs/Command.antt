@@ -1,6 +1,7 @@
 -- The lines of the command table, as the words that are typed.
 use Rattle.std.specs.Prelude.{◌≡◌, ◌≢◌, ℕ, ◌<◌, ◌≤◌, List, [], ◌∷◌, length, slice_index, codes, decimal}
 use Rattle.prof_base.specs.Text.{IsText}
+use Rattle.prof_base.specs.declared.interval.TheConstants.{MAX_INTERVAL}
 
 -- a word that names something: a text of at least one byte that does not begin with a dash
 pub record IsName (word : List ℕ) : Type 0 where
@@ -13,7 +14,7 @@ pub record IsRun (words : List (List ℕ)) (name : List ℕ) (every : ℕ) : Typ
   pub spelled : words ≡ codes "run" ∷ name ∷ decimal every ∷ []
   pub named : IsName name
   pub low : 1 ≤ every
-  pub high : every ≤ 1000000000
+  pub high : every ≤ MAX_INTERVAL
 
 -- the words are a line of the table
 abbrev pub IsCommand : List (List ℕ) → Type 0

@@ -1,6 +1,7 @@
 -- Small schedules that were checked against the rules by hand.
 use Rattle.std.proofs.Common.{lit≤}
 use Rattle.std.specs.Prelude.{ℕ, ◌≤◌, List, [], ◌∷◌, None}
+use Rattle.prof_base.specs.declared.interval.TheConstants.{MAX_INTERVAL}
 use Rattle.code_event.specs.declared.event.Mode.TheVariants.{Leaf}
 use Rattle.code_event.specs.ItemFile.{session}
 use Rattle.record_text.specs.declared.schedule.EndCause.TheVariants as cause
@@ -10,7 +11,7 @@ use Rattle.record_text.specs.declared.schedule.ScheduleEntry.{ScheduleEntry}
 use Rattle.record_text.specs.ScheduleParts.{ScheduleParts}
 
 -- a start from port 0 of a session that lists all its samples
-abbrev pub start_every : (interval : ℕ) → 1 ≤ interval → interval ≤ 1000000000 → What
+abbrev pub start_every : (interval : ℕ) → 1 ≤ interval → interval ≤ MAX_INTERVAL → What
 start_every interval low high = Start (record { port = 0; interval = interval; mode = Leaf; max_samples = None; low = low; high = high })
 
 -- what came about at a step, with the step as its time in microseconds
