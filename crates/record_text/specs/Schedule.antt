@@ -1,12 +1,13 @@
 -- The rules of a schedule. Each entry is checked against all entries before it.
 use Rattle.std.specs.Prelude.{◌≡◌, ℕ, suc, ◌<◌, ◌≤◌, List, [], ◌∷◌, ◌++◌, length, filter, count_by, Contains, Bool, true, false, not, ◌||◌, ◌==◌, Option, Some, None}
 use Rattle.std.specs.List.{AllByRecursion}
+use Rattle.code_event.specs.declared.event.TheConstants.{MAX_SESSIONS}
 use Rattle.record_text.specs.declared.schedule.EndCause.{EndCause}
 use Rattle.record_text.specs.declared.schedule.EndCause.TheVariants as cause
 use Rattle.record_text.specs.declared.schedule.What.{What}
 use Rattle.record_text.specs.declared.schedule.What.TheVariants.{Sampled, Dropped, Start, Stop, End}
 use Rattle.record_text.specs.declared.schedule.ScheduleEntry.{ScheduleEntry}
-use Rattle.record_text.specs.ScheduleParts.{ScheduleParts}
+use Rattle.record_text.specs.ScheduleParts.{ScheduleParts, port_of}
 
 -- a session that runs: its number, the port that started it, and its interval
 pub record Running : Type 0 where
@@ -51,12 +52,6 @@ abbrev pub is_end : What → Bool
 is_end (End cause) = true
 is_end other = false
 
--- the port that a command came from
-abbrev pub port_of : What → Option ℕ
-port_of (Start options) = Some options.port
-port_of (Stop port session) = Some port
-port_of other = None
-
 -- the rule Order, of an entry and one before it: neither step nor time falls, nothing follows an end, only an end follows a sample at the same step, and the commands at one step come by rising port
 pub record MayStandBehind (entry before : ScheduleEntry) : Type 0 where
   pub step : before.step ≤ entry.step
@@ -72,7 +67,7 @@ IsInOrder before entry = AllByRecursion (MayStandBehind entry) before
 abbrev pub HasSession : List Running → What → Type 0
 HasSession running Sampled = 1 ≤ length running
 HasSession running Dropped = 1 ≤ length running
-HasSession running (Start options) = length running < 100
+HasSession running (Start options) = length running < MAX_SESSIONS
 HasSession running (Stop port session) = (interval : ℕ) × Contains running (record { session = session.0; port = port; interval = interval })
 HasSession running (End cause) = Unit {0}
 

@@ -1,5 +1,7 @@
 // Schedules: what an isolate did, and when.
 ghost use Rattle.std.specs.Prelude.{◌≡◌, ◌↔◌, ◌<◌, ◌≤◌, [], ◌∷◌, ◌++◌, false, length, IfOk, IsTrue};
+ghost use Rattle.std.specs.List.{AllByRecursion};
+ghost use Rattle.record_text.specs.ScheduleParts.{HasPort};
 
 use crate::limits::{MAX_BUDGET, MAX_ENTRIES, MAX_RING, MIN_ENTRIES};
 use code_event::Options;
@@ -142,6 +144,7 @@ impl Schedule {
     pub fn entries(&self) -> &[ScheduleEntry]
         ensures entries { result.now ≡ self.now.entries }
         ensures room { length result.now ≤ self.now.limit }
+        ensures ports { AllByRecursion (λ entry. HasPort entry.what) result.now }
     {
         self.entries.as_slice()
     }
@@ -154,9 +157,11 @@ impl Schedule {
         self.entries.len() == self.limit as usize
     }
 
-    /// Adds an entry after the last one. It takes no memory.
+    /// Adds an entry after the last one. It takes no memory. A command's port is at most
+    /// [`MAX_PORT`].
     pub fn enter(&mut self, entry: ScheduleEntry)
-        requires { length self.old.entries < self.old.limit }
+        requires room { length self.old.entries < self.old.limit }
+        requires port { HasPort entry.what }
         ensures { self.new ≡ record self.old { entries = self.old.entries ++ entry ∷ [] } }
     {
         self.entries.push(entry).unwrap();
