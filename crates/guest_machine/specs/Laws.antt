@@ -6,7 +6,7 @@ use Rattle.guest_text.specs.Program.{IsProgram}
 use Rattle.guest_text.specs.declared.instr.Func.{Func}
 use Rattle.guest_machine.specs.PlainMachine.{Frame, plain, deopts, instr_of}
 
--- where the machine has ended after so many steps, it is the same after any more
+-- where the machine has ended after a number of steps, it is the same after any more
 abbrev pub EndsAreFinal : Type 0
 EndsAreFinal = (funcs : List Func) (steps more : ℕ) → is_some (plain funcs steps).ended ≡ true → plain funcs (steps + more) ≡ plain funcs steps
 

@@ -91,7 +91,7 @@ sets funcs state frame callers to number = rises funcs state state (with_registe
 abbrev pub jumps : State → Frame → List Frame → ℕ → State
 jumps state frame callers index = record state { stack = record frame { index = index } ∷ callers }
 
--- a frame of the function stands on top; with 255 frames there is no room
+-- a frame of the function goes on top; with 255 frames there is no room
 abbrev pub calls : State → Frame → List Frame → ℕ → State
 calls state frame callers func =
     if nat_lt (length callers) 254
@@ -103,7 +103,7 @@ abbrev pub returns : List Func → State → Frame → List Frame → State
 returns funcs state frame [] = ends end.Halt state
 returns funcs state frame (caller ∷ callers) = rises funcs state state (with_register caller 0 (register frame 0)) callers
 
--- the engine is in this state for so many steps, and the index has risen
+-- the engine is in this state for this many steps, and the index has risen
 abbrev pub waits : List Func → State → Frame → List Frame → VmState → ℕ → State
 waits funcs state frame callers engine steps = rises funcs state (record state { state = engine; rest = steps }) frame callers
 
@@ -178,7 +178,7 @@ step funcs state =
     else if is_js state.state then js_step funcs state state.stack
     else wait_step state
 
--- the machine after so many steps
+-- the machine after this many steps
 abbrev pub plain : List Func → ℕ → State
 plain funcs zero = start funcs
 plain funcs (suc steps) = step funcs (plain funcs steps)
@@ -192,7 +192,7 @@ abbrev pub js_gives_up : List Func → State → List Frame → Bool
 js_gives_up funcs state [] = false
 js_gives_up funcs state (frame ∷ callers) = option_map_or (λ instr. gives_up state instr.op) (instr_of funcs frame) false
 
--- whether the next step after so many makes a deoptimisation: it gives optimised code up, and does not leave the body
+-- whether the step after this many makes a deoptimisation: it gives optimised code up, and does not leave the body
 abbrev pub deopts : List Func → ℕ → Bool
 deopts funcs steps =
     let before = plain funcs steps in

@@ -19,7 +19,7 @@ pub fn code_is_said_of_each_function()
 {}
 
 /// In a program that keeps the rules, each frame is always in a function that there is, at one of its
-/// instructions. So the machine never stands still for want of an operation.
+/// instructions. So the machine always has an operation to do.
 pub fn each_frame_is_in_its_body()
     ensures in_body { FramesAreInBodies }
     ensures instruction { FramesHaveInstructions }

@@ -1,4 +1,4 @@
-//! The guest machine. What a program means stands here as a definition, over functions, indices and
+//! The guest machine. What a program means is defined here, over functions, indices and
 //! numbers alone.
 #![tactic(auto)]
 

@@ -16,6 +16,3 @@ pub use interval::{MAX_INTERVAL, MAX_ROUNDED, gcd, rounded, source_interval};
 pub use memory::Memory;
 pub use sequence::Sequence;
 pub use text::{Text, TextRefused};
-
-#[cfg(test)]
-mod tests;

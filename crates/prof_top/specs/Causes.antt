@@ -9,7 +9,7 @@ use Rattle.prof_top.specs.declared.ending.Ending.TheVariants.{Done, Usage, Progr
 use Rattle.prof_top.specs.declared.load.Unread.{Unread}
 use Rattle.prof_top.specs.declared.load.Unread.TheVariants as unread
 
--- what the objects that were handed in tell at one moment
+-- what can be observed of the objects that were handed in, at one moment
 pub record Outside : Type 0 where
   pub held : Option FileMap
   pub misses : ℕ

@@ -52,7 +52,7 @@ ending_of unread.CannotRead name = CannotRead name
 ending_of (unread.Refused line cause) name = ProgramRefused name line cause
 ending_of unread.Memory name = Memory
 
--- how a run ends, by how its file was delivered and its text written: want of memory first, then the stream, then the text
+-- how a run ends, by how its file was delivered and its text written: out of memory first, then the stream, then the text
 abbrev pub run_ending : Result (Unit {0}) Undelivered → Result (Unit {0}) SinkFault → Ending
 run_ending (Err cut.Memory) written = Memory
 run_ending (Err cut.Aborted) (Err sink.Memory) = Memory
@@ -65,7 +65,7 @@ run_ending (Err cut.Failed) (Ok u) = CannotWrite
 run_ending (Ok u) (Err sink.Failed) = CannotWrite
 run_ending (Ok u) (Ok v) = Done
 
--- how a call ends, by how its line of error was written: only want of memory changes that
+-- how a call ends, by how its line of error was written: only out of memory changes that
 abbrev pub ending_after : Ending → Result (Unit {0}) SinkFault → Ending
 ending_after ending (Err sink.Memory) = Memory
 ending_after ending (Err sink.Failed) = ending

@@ -1,18 +1,18 @@
--- What a depot that tells its files has under the name of a program.
+-- What a depot whose files can be observed has under the name of a program.
 use Rattle.std.specs.Prelude.{◌≡◌, ℕ, List, Option, None, IfSome, IsSomeAnd}
 use Rattle.prof_outer.specs.Files.{FileMap, file_at}
 use Rattle.guest_text.specs.Straight.{HasReading}
 use Rattle.prof_top.specs.Command.{IsRun}
 
--- where the depot tells, it has no file under the name
+-- where its files can be observed, it has none under the name
 abbrev pub LacksFile : Option FileMap → List ℕ → Type 0
 LacksFile held name = IfSome held (λ files. file_at files name ≡ None)
 
--- where the depot tells, it has a file under the name that has no reading
+-- where its files can be observed, it has one under the name, and that has no reading
 abbrev pub HoldsUnreadable : Option FileMap → List ℕ → Type 0
 HoldsUnreadable held name = IfSome held (λ files. IsSomeAnd (file_at files name) (λ text. ¬ HasReading text))
 
--- where the depot tells, it has a file under the name, and that has a reading
+-- where its files can be observed, it has one under the name, and that has a reading
 abbrev pub MayRead : Option FileMap → List ℕ → Type 0
 MayRead held name = IfSome held (λ files. IsSomeAnd (file_at files name) HasReading)
 

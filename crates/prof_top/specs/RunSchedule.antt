@@ -11,7 +11,7 @@ use Rattle.prof_top.specs.Schedules.{IsHead}
 use Rattle.prof_top.specs.StepClock.{IsStepClock}
 use Rattle.prof_top.specs.declared.recording.TheConstants.{BUDGET, ENTRIES}
 
--- what holds of the schedule of a run that samples every so many microseconds
+-- what holds of the schedule of a run that samples at this interval
 pub record IsRunSchedule (funcs : List Func) (every : ℕ) (schedule : ScheduleParts) : Type 0 where
   pub legal : IsLegalSchedule schedule
   pub fits : Fits funcs schedule

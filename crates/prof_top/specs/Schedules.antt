@@ -12,7 +12,7 @@ use Rattle.prof_top.specs.declared.ending.Ending.{Ending}
 use Rattle.prof_top.specs.declared.ending.Ending.TheVariants.{Done, CannotWrite, Aborted, Memory}
 use Rattle.prof_top.specs.declared.recording.TheConstants.{BUDGET, ENTRIES}
 
--- the program that was read under a name: where the depot tells, the one whose text it has there
+-- the program that was read under a name: where the depot's files can be observed, the one whose text it has there
 pub record IsProgramRead (held : Option FileMap) (name : List ℕ) (funcs : List Func) : Type 0 where
   pub rules : IsProgram funcs
   pub straight : IsStraight funcs
@@ -26,7 +26,7 @@ IsLoaded words held funcs every = (name : List ℕ) × IsRun words name every ×
 abbrev pub OfRun : List (List ℕ) → Option FileMap → (List Func → ℕ → Type 0) → Type 0
 OfRun words held P = (funcs : List Func) × (every : ℕ) × IsLoaded words held funcs every × P funcs every
 
--- what stands before the entries: the interval as the base, the ring, the budget of steps and the limit of entries
+-- what comes before the entries: the interval as the base, the ring, the budget of steps and the limit of entries
 pub record IsHead (every : ℕ) (schedule : ScheduleParts) : Type 0 where
   pub base : schedule.base ≡ every
   pub ring : schedule.ring ≡ DEFAULT_RING

@@ -10,7 +10,7 @@ use Rattle.record_text.specs.declared.schedule.What.TheVariants.{Sampled, Start,
 use Rattle.record_text.specs.declared.schedule.ScheduleEntry.{ScheduleEntry}
 use Rattle.isolate.specs.Fits.{MayEndFor}
 
--- this comes about at a step, which is the time too
+-- this happens at a step, which is the time too
 abbrev pub entry_at : ℕ → What → ScheduleEntry
 entry_at step what = record { step = step; time = step; what = what }
 
@@ -18,12 +18,12 @@ entry_at step what = record { step = step; time = step; what = what }
 abbrev pub is_asked : ℕ → ℕ → Bool
 is_asked every step = not (step == 0) && step % every == 0
 
--- the samples that are taken before so many steps are done
+-- the samples that are taken before this many steps are done
 abbrev pub samples_before : ℕ → ℕ → List ScheduleEntry
 samples_before every zero = []
 samples_before every (suc step) = samples_before every step ++ (if is_asked every step then entry_at step Sampled ∷ [] else [])
 
--- what comes about before the end: the start, and the samples
+-- what happens before the end: the start, and the samples
 abbrev pub entries_before : Options → ℕ → List ScheduleEntry
 entries_before options step = entry_at 0 (Start options) ∷ samples_before options.interval step
 
@@ -33,7 +33,7 @@ last_step [] = 0
 last_step (entry ∷ []) = entry.step
 last_step (entry ∷ next ∷ entries) = last_step (next ∷ entries)
 
--- these entries and an end behind them: as many as fit before the last place, and in the last place an end that is `full`
+-- these entries and an end after them: as many as fit before the last place, and in the last place an end that is `full`
 abbrev pub with_end : ℕ → List ScheduleEntry → ScheduleEntry → List ScheduleEntry
 with_end limit entries end =
     if nat_le (limit - 1) (length entries)
@@ -54,7 +54,7 @@ EndsWithin funcs budget step cause.Full = ⊥
 EndsWithin funcs budget step cause.Memory = ⊥
 EndsWithin funcs budget step cause = (step ≤ budget) × MayEndFor funcs step cause
 
--- the entries of a run that samples every so many steps, with this budget of steps and at most `limit` entries
+-- the entries of a run that samples at this interval, with this budget of steps and at most `limit` entries
 pub record IsStepClock (funcs : List Func) (every budget limit : ℕ) (entries : List ScheduleEntry) : Type 0 where
   pub options : Options
   pub recording : IsWholeRecording every options

@@ -18,7 +18,7 @@ straight_state funcs index registers halted =
       ended = if halted then Some Halt else None;
     }
 
--- the program's `main` is this function, and after so many steps the machine is so
+-- the program's `main` is this function, and after this many steps the machine is so
 pub record IsAfter (funcs : List Func) (main : Func) (index : ℕ) (registers : List ℕ) (halted : Bool) (steps : ℕ) : Type 0 where
   pub main_is : slice_get funcs (main_of funcs) ≡ Some main
   pub state_is : plain funcs steps ≡ straight_state funcs index registers halted

@@ -30,10 +30,10 @@ use std::alloc::Global;
 pub struct Outcome {
     /// The exit status: 0 where the guest halted and all was delivered and written, 1 for words
     /// that are no command, 2 for a program's text that has no reading, 3 for a missing file, 4 for
-    /// one that could not be read, 5 for a stream or a sink that failed, 6 for want of memory, and
+    /// one that could not be read, 5 for a stream or a sink that failed, 6 for out of memory, and
     /// 14 for a stream that aborted.
     pub status: u8,
-    /// The schedule of the run that took place: what came about in it, and when. There is none where
+    /// The schedule of the run that took place: what happened in it, and when. There is none where
     /// nothing ran, and may be none where memory was refused.
     pub schedules: Sequence<Schedule>,
     /// The stream that was handed in.

@@ -10,7 +10,7 @@ use prof_base::Text;
 use prof_outer::{Sink, SinkFault};
 use std::alloc::{AllocError, Global};
 
-/// How a call ends, with what its line of error tells.
+/// How a call ends, with what its line of error says.
 #[derive(Debug, Drop)]
 pub enum Ending {
     /// The guest halted, every file was delivered, and the text was written.
@@ -139,7 +139,7 @@ fn ending_after(ending: Ending, said: Result<(), SinkFault>) -> Ending
 }
 
 /// Reports how the call ends by its line on `err`, where there is one. A fault of `err` changes
-/// nothing; its want of memory is the call's.
+/// nothing; where it runs out of memory, so does the call.
 pub(crate) fn report<E: Sink>(alloc: Global, ending: Ending, err: &mut E) -> Ending
     ensures ending { (result ≡ ending) ⊎ (result ≡ Ending.Memory) }
     ensures written { IsWritten (line_of result) (status_of result) (E.written err.old) (E.written err.new) (E.faults err.old) (E.faults err.new) }

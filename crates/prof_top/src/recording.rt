@@ -1,4 +1,4 @@
-// The step clock: a run that reads its steps as microseconds, with what comes about in it and what its
+// The step clock: a run that reads its steps as microseconds, with what happens in it and what its
 // session sees.
 ghost use Rattle.std.specs.Prelude.{◌≡◌, ◌≤◌, ◌<◌, ◌++◌, ◌∷◌, [], ◌^◌, ℕ, List, Bool, true, false, Some, None, length, map, suc, OnOk, IfOk, if◌then◌else◌};
 ghost use Rattle.guest_text.specs.Straight.{IsStraight};
@@ -43,7 +43,7 @@ fn is_asked(step: u64, every: u32) -> bool
     step != 0 && step % u64::from(every) == 0
 }
 
-// What comes about at a step, which is the time too.
+// What happens at a step, which is the time too.
 fn entry_at(step: u64, what: What) -> ScheduleEntry
     requires { step < 2 ^ 53 }
     ensures { result ≡ entry_at step what }
@@ -66,7 +66,7 @@ fn whole_recording(every: u32) -> Options
     }
 }
 
-// A tick of the machine after so many steps, which are the time too.
+// A tick of the machine after this many steps, which are the time too.
 fn tick_at(
     alloc: Global,
     machine: &Machine<'_>,
@@ -89,7 +89,7 @@ fn tick_at(
     }))
 }
 
-/// What has come about so far, and what the session has seen of it.
+/// What has happened so far, and what the session has seen of it.
 #[derive(Debug, Drop)]
 struct Log {
     schedule: Schedule,
@@ -141,7 +141,7 @@ fn take_sample(
     Ok(())
 }
 
-// The recording of a run that has ended after so many steps.
+// A run that has ended after this many steps.
 fn end(alloc: Global, log: Log, step: u64) -> Result<RecordedRun, Memory>
     requires early { step ≤ 4096 }
     requires room { length log.schedule.entries < log.schedule.limit }

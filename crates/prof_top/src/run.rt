@@ -90,8 +90,8 @@ fn run_ending(delivered: Result<(), Undelivered>, written: Result<(), SinkFault>
     }
 }
 
-// Prints the lines of a run, and the line of its file where that was delivered. Nothing is done after
-// want of memory.
+// Prints the lines of a run, and the line of its file where that was delivered. Nothing is done once
+// memory has run out.
 fn print<O: Sink>(
     alloc: Global,
     delivered: Result<(), Undelivered>,

@@ -1,4 +1,5 @@
-use crate::{
+// Texts, lists and numbers at both ends of their sizes.
+use prof_base::{
     FuncId, Micros, Sequence, SessionId, Text, TextRefused, gcd, rounded, source_interval,
 };
 use std::test::Fail;
