@@ -9,8 +9,29 @@ use std::str;
 /// A part longer than this is printed as its length and its hash.
 const SHOWN: u64 = 1_000;
 
+/// The length of a part so far, and its FNV-1a hash of 64 bits.
+#[derive(Clone, Copy)]
+struct Digest {
+    length: u64,
+    hash: u64,
+}
+
+const NO_BYTES: Digest = Digest {
+    length: 0,
+    hash: 0xcbf2_9ce4_8422_2325,
+};
+
+impl Digest {
+    fn add(&mut self, chunk: &[u8]) {
+        for byte in chunk {
+            self.length = self.length.wrapping_add(1);
+            self.hash = (self.hash ^ u64::from(*byte)).wrapping_mul(0x0100_0000_01b3);
+        }
+    }
+}
+
 /// Prints each part on a line of its own as it comes; of a long part the first bytes, and then its
-/// length and its FNV-1a hash of 64 bits. It fails or aborts at one chunk, by its number from 1.
+/// length and its hash. It fails or aborts at one chunk, by its number from 1.
 #[derive(Drop)]
 pub(crate) struct Tape<R: Print + Drop> {
     rt: R,
@@ -20,13 +41,10 @@ pub(crate) struct Tape<R: Print + Drop> {
     calls: u64,
     failed: u64,
     aborted: u64,
-    length: u64,
-    hash: u64,
+    digest: Digest,
     ghost low: { 1 ≤ chunk },
     ghost high: { chunk ≤ 65536 },
 }
-
-const NO_BYTES: u64 = 0xcbf2_9ce4_8422_2325;
 
 impl<R: Print + Drop> Tape<R> {
     /// The stream of a case.
@@ -39,19 +57,22 @@ impl<R: Print + Drop> Tape<R> {
             calls: 0,
             failed: 0,
             aborted: 0,
-            length: 0,
-            hash: NO_BYTES,
+            digest: NO_BYTES,
         }
     }
 
-    fn take(&mut self, chunk: &[u8]) {
-        for byte in chunk {
-            self.length = self.length.wrapping_add(1);
-            self.hash = (self.hash ^ u64::from(*byte)).wrapping_mul(0x0100_0000_01b3);
-        }
-        if self.length <= SHOWN {
+    fn print_chunk(&self, chunk: &[u8]) {
+        if self.digest.length <= SHOWN {
             let _ = print!(self.rt; "{}", str::from_utf8(chunk).unwrap_or("?"));
         }
+    }
+
+    fn print_end(&self) {
+        let Digest { length, hash } = self.digest;
+        if length > SHOWN {
+            let _ = print!(self.rt; ".. {length} bytes, {hash:016x}");
+        }
+        let _ = println!(self.rt; "");
     }
 }
 
@@ -76,7 +97,8 @@ impl<R: Print + Drop> OutputStream for Tape<R> {
             self.failed = self.failed.saturating_add(1);
             return Chunk::Failed;
         }
-        self.take(chunk);
+        self.digest.add(chunk);
+        self.print_chunk(chunk);
         if self.calls == self.aborts {
             self.aborted = self.aborted.saturating_add(1);
             return Chunk::Abort;
@@ -85,12 +107,7 @@ impl<R: Print + Drop> OutputStream for Tape<R> {
     }
 
     fn end_of_stream(&mut self) {
-        let (length, hash) = (self.length, self.hash);
-        if length > SHOWN {
-            let _ = print!(self.rt; ".. {length} bytes, {hash:016x}");
-        }
-        let _ = println!(self.rt; "");
-        self.length = 0;
-        self.hash = NO_BYTES;
+        self.print_end();
+        self.digest = NO_BYTES;
     }
 }
