@@ -1,5 +1,5 @@
--- The files of an item list.
-use Rattle.std.specs.Prelude.{ℕ, List, [], ◌∷◌, Option, flat_map, if◌then◌else◌}
+-- The files of what is seen and of an item list, in the order in which their sessions end.
+use Rattle.std.specs.Prelude.{ℕ, List, [], ◌∷◌, Option, option_map, flat_map, if◌then◌else◌}
 use Rattle.std.specs.Option.{option_to_list}
 use Rattle.std.specs.Ordering.{nat_cmp}
 use Rattle.prof_base.specs.Ordered.{insert_sorted}
@@ -17,6 +17,19 @@ item_file base items session = file base session (seen_items items)
 abbrev pub session : ℕ → SessionId
 session number = record { 0 = number }
 
+-- a session by its number, with the text of its file
+pub record SessionFile : Type 0 where
+  pub session : ℕ
+  pub text : List ℕ
+
+-- the file of a session in what is seen, if it has one
+abbrev pub session_file : ℕ → List Seen → ℕ → List SessionFile
+session_file base seen number = option_to_list (option_map (λ text. record { session = number; text = text }) (file base (session number) seen))
+
+-- the files of these sessions in what is seen
+abbrev pub files_of : ℕ → List Seen → List ℕ → List SessionFile
+files_of base seen numbers = flat_map (session_file base seen) numbers
+
 -- the sessions in the order in which they end, by those that run, rising: each stop's, then those that a finish with files ends, by their numbers
 abbrev pub ends_behind : List ℕ → List Seen → List ℕ
 ends_behind running [] = []
@@ -25,10 +38,14 @@ ends_behind running (stopped s time reasons ∷ seen) = s.0 ∷ ends_behind (wit
 ends_behind running (finished time files reasons ∷ seen) = if files then running else []
 ends_behind running (ticked tick ∷ seen) = ends_behind running seen
 
+-- the sessions that end in what is seen, in the order in which they end
+abbrev pub ends : List Seen → List ℕ
+ends seen = ends_behind [] seen
+
 -- the files of what is seen, in the order in which their sessions end
-abbrev pub files : ℕ → List Seen → List (List ℕ)
-files base seen = flat_map (λ number. option_to_list (file base (session number) seen)) (ends_behind [] seen)
+abbrev pub files : ℕ → List Seen → List SessionFile
+files base seen = files_of base seen (ends seen)
 
 -- the files of an item list, in order
-abbrev pub item_files : ℕ → List Item → List (List ℕ)
+abbrev pub item_files : ℕ → List Item → List SessionFile
 item_files base items = files base (seen_items items)

@@ -14,3 +14,6 @@ pub mod ItemFile
 pub mod Examples
 pub mod Laws
 pub mod TreeLaws
+pub mod MomentLaws
+pub mod RecordingLaws
+pub mod FileLaws

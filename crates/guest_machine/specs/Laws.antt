@@ -1,10 +1,10 @@
 -- What holds of the plain machine, whatever its program and however many its steps.
-use Rattle.std.specs.Prelude.{◌≡◌, ℕ, ◌+◌, ◌^◌, ◌<◌, ◌≤◌, List, length, true, false, is_some}
+use Rattle.std.specs.Prelude.{◌≡◌, ◌↔◌, ℕ, suc, ◌+◌, ◌^◌, ◌<◌, ◌≤◌, List, length, true, false, is_some}
 use Rattle.std.specs.List.{AllByRecursion}
 use Rattle.guest_text.specs.InlinedSize.{body_of}
 use Rattle.guest_text.specs.Program.{IsProgram}
 use Rattle.guest_text.specs.declared.instr.Func.{Func}
-use Rattle.guest_machine.specs.PlainMachine.{Frame, plain, deopts, instr_of}
+use Rattle.guest_machine.specs.PlainMachine.{Frame, plain, deopts, code_at, instr_of}
 
 -- where the machine has ended after a number of steps, it is the same after any more
 abbrev pub EndsAreFinal : Type 0
@@ -47,3 +47,11 @@ pub record HasRegisters (frame : Frame) : Type 0 where
 -- each frame always has its eight registers
 abbrev pub FramesHaveRegisters : Type 0
 FramesHaveRegisters = (funcs : List Func) (steps : ℕ) → AllByRecursion HasRegisters (plain funcs steps).stack
+
+-- the step after this many takes a function's optimised code away
+abbrev pub TakesCodeAway : List Func → ℕ → Type 0
+TakesCodeAway funcs steps = (func : ℕ) × ((code_at (plain funcs steps) func).optimised ≡ true) × ((code_at (plain funcs (suc steps)) func).optimised ≡ false)
+
+-- a step makes a deoptimisation just where it takes some function's optimised code away
+abbrev pub DeoptsTakeCodeAway : Type 0
+DeoptsTakeCodeAway = (funcs : List Func) (steps : ℕ) → (deopts funcs steps ≡ true) ↔ TakesCodeAway funcs steps

@@ -4,7 +4,8 @@ use Rattle.std.proofs.lemmas.List.{append-nil}
 use Rattle.std.specs.Prelude.{Option, Some, None, option_map, Result, Ok, Err, OnOk, OnErr, IsErrOf, IfSome, flat_map}
 use Rattle.std.specs.List.{AllByRecursion}
 use Rattle.guest_text.specs.declared.instr.Func.{Func}
-use Rattle.isolate.specs.PlainFile.{SessionFile, plain_files}
+use Rattle.code_event.specs.ItemFile.{SessionFile}
+use Rattle.isolate.specs.PlainFile.{plain_files}
 use Rattle.prof_base.specs.Causes.{Rose}
 use Rattle.prof_outer.specs.Appends.{AppendsWhole, AppendsPart}
 use Rattle.prof_outer.specs.declared.sink.SinkFault.{SinkFault}

@@ -18,7 +18,8 @@ use Rattle.code_event.specs.declared.event.Options.{Options}
 use Rattle.code_event.specs.declared.recording.Begun.{Begun}
 use Rattle.code_event.specs.declared.seen.ResolvedTick.{ResolvedTick}
 use Rattle.guest_machine.specs.PlainMachine.{plain, deopts, plain_code}
-use Rattle.isolate.specs.PlainFile.{func_entry, reason_in, reasons_of, plain_frames, tick_at, given_up, given_up_for, seen_of, seen_behind, ends_behind}
+use Rattle.guest_machine.specs.PlainFrames.{func_entry, reason_in, reasons_of, plain_frames}
+use Rattle.isolate.specs.PlainFile.{tick_at, given_up, given_up_for, seen_of, seen_behind, ends_behind}
 use Rattle.prof_base.specs.Interval.{rounded_of}
 use Rattle.record_text.specs.Schedule.{Course, Running, course_after, course_on}
 use Rattle.record_text.specs.Source.{gcd, gcd_within, source_for}

@@ -6,7 +6,7 @@ use Rattle.prof_base.specs.Causes.{Rose}
 use Rattle.prof_base.specs.Prefix.{IsPrefix}
 use Rattle.prof_outer.specs.Appends.{AppendsWhole}
 use Rattle.out_stream.specs.Parts.{Parts}
-use Rattle.isolate.specs.PlainFile.{SessionFile}
+use Rattle.code_event.specs.ItemFile.{SessionFile}
 use Rattle.prof_top.specs.Written.{IsWritten}
 
 -- what can be observed of the stream and of `out` at one moment

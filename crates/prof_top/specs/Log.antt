@@ -10,7 +10,8 @@ use Rattle.code_event.specs.Seen.{Seen, started}
 use Rattle.code_event.specs.declared.event.Options.{Options}
 use Rattle.guest_machine.specs.PlainMachine.{plain, main_of}
 use Rattle.isolate.specs.Fits.{IsGoing}
-use Rattle.isolate.specs.PlainFile.{SessionFile, tick_at, seen_run, ends_behind, plain_files}
+use Rattle.code_event.specs.ItemFile.{SessionFile}
+use Rattle.isolate.specs.PlainFile.{tick_at, seen_run, ends_behind, plain_files}
 use Rattle.record_text.specs.ScheduleParts.{ScheduleParts}
 use Rattle.prof_top.specs.PrintedText.{one_file, file_line, printed_text}
 use Rattle.prof_top.specs.RunSchedule.{IsRunSchedule}

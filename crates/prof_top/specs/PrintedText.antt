@@ -3,7 +3,7 @@ use Rattle.std.specs.Prelude.{ℕ, List, [], ◌∷◌, ◌++◌, length, flat_m
 use Rattle.out_stream.specs.declared.stream.Undelivered.{Undelivered}
 use Rattle.guest_text.specs.declared.instr.Func.{Func}
 use Rattle.guest_machine.specs.PlainMachine.{plain}
-use Rattle.isolate.specs.PlainFile.{SessionFile}
+use Rattle.code_event.specs.ItemFile.{SessionFile}
 use Rattle.record_text.specs.Schedule.{is_sampled}
 use Rattle.record_text.specs.ScheduleParts.{ScheduleParts}
 use Rattle.record_text.specs.declared.schedule.EndCause.{EndCause}

@@ -3,7 +3,7 @@ ghost use Rattle.std.specs.Prelude.{◌≡◌, ◌<◌, ◌≤◌, ℕ, List, le
 ghost use Rattle.guest_text.specs.Straight.{IsStraight, IsStraightBody};
 ghost use Rattle.guest_text.specs.declared.instr.Func.{Func};
 ghost use Rattle.guest_machine.specs.PlainMachine.{plain};
-ghost use Rattle.isolate.specs.PlainFile.{func_entry, plain_frames};
+ghost use Rattle.guest_machine.specs.PlainFrames.{func_entry, plain_frames};
 ghost use Rattle.prof_top.specs.Straight.{IsAfter};
 
 use code_event::{Entry, ResolvedFrame};

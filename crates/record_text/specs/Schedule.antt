@@ -20,6 +20,10 @@ pub record Course : Type 0 where
   pub started : ℕ
   pub running : List Running
 
+-- before the first entry
+abbrev pub none_yet : Course
+none_yet = record { started = 0; running = [] }
+
 -- the sessions after one more entry; they are numbered by their starts, from 1
 abbrev pub course_after : Course → What → Course
 course_after course (Start options) =
@@ -36,7 +40,7 @@ course_on course (entry ∷ entries) = course_on (course_after course entry.what
 
 -- the sessions that run after these entries
 abbrev pub running_after : List ScheduleEntry → List Running
-running_after entries = (course_on (record { started = 0; running = [] }) entries).running
+running_after entries = (course_on none_yet entries).running
 
 -- whether it is a sample, taken or dropped
 abbrev pub is_sample : What → Bool

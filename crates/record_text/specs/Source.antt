@@ -1,5 +1,5 @@
 -- The interval at which samples are taken for the sessions that run.
-use Rattle.std.specs.Prelude.{ℕ, zero, suc, ◌%◌, List, [], ◌∷◌, map, take, ◌==◌, if◌then◌else◌}
+use Rattle.std.specs.Prelude.{ℕ, zero, suc, ◌%◌, ◌^◌, nat_lt, List, [], ◌∷◌, map, take, ◌==◌, if◌then◌else◌}
 use Rattle.prof_base.specs.Interval.{rounded_of, IsSourceInterval}
 use Rattle.record_text.specs.ScheduleParts.{ScheduleParts}
 use Rattle.record_text.specs.Schedule.{Running, running_after}
@@ -9,9 +9,13 @@ abbrev pub gcd_within : ℕ → ℕ → ℕ → ℕ
 gcd_within zero a b = a
 gcd_within (suc times) a b = if b == 0 then a else gcd_within times b (a % b)
 
+-- How many remainders are enough. Two of them halve the smaller number, so below 2^128 it takes 256; it never takes more than one for each number that is smaller.
+abbrev pub enough_for : ℕ → ℕ
+enough_for b = if nat_lt b (2 ^ 128) then 256 else suc b
+
 -- the greatest common divisor
 abbrev pub gcd : ℕ → ℕ → ℕ
-gcd a b = gcd_within (suc b) a b
+gcd a b = gcd_within (enough_for b) a b
 
 -- the greatest common divisor of a number and the rounded intervals
 abbrev pub source_with : ℕ → ℕ → List ℕ → ℕ

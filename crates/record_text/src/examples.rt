@@ -1,8 +1,8 @@
 //! The definitions of schedules, computed on small ones. Each function does nothing: its contract is
 //! the example.
-ghost use Rattle.std.specs.Prelude.{◌≡◌};
+ghost use Rattle.std.specs.Prelude.{◌≡◌, ◌∷◌, []};
 ghost use Rattle.record_text.specs.Schedule.{IsLegalSchedule};
-ghost use Rattle.record_text.specs.Source.{source_after};
+ghost use Rattle.record_text.specs.Source.{source_after, source_of};
 ghost use Rattle.record_text.specs.Examples.{full_at_its_limit, halted_with_room, dropped_with_room, stopped_from_another_port, sampled_for_no_session, sampled_twice_at_a_step, full_before_its_limit, halted_at_its_limit, without_an_end, sampled_after_its_end, sampled_at_its_budget, falling_in_time, two_sessions};
 
 /// A schedule that keeps all rules is legal, whether it ends because it is full or because the program
@@ -42,4 +42,11 @@ pub fn the_source_interval_is_that_of_the_sessions_that_run()
     ensures first { source_after two_sessions 1 ≡ 2000 }
     ensures both { source_after two_sessions 2 ≡ 1000 }
     ensures second { source_after two_sessions 3 ≡ 3000 }
+{}
+
+/// The source interval of great intervals is computed too.
+pub fn great_intervals_have_a_common_divisor()
+    ensures two { source_of 1 (1000000000 ∷ 30000000 ∷ []) ≡ 10000000 }
+    ensures rounded { source_of 30000000 (1000000000 ∷ 30000000 ∷ []) ≡ 30000000 }
+    ensures apart { source_of 1 (701408733 ∷ 433494437 ∷ []) ≡ 1 }
 {}
