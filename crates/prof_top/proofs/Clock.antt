@@ -10,7 +10,7 @@ use Rattle.code_event.proofs.EachElement.{all_mapped, all_pushed}
 use Rattle.code_event.specs.declared.event.Options.{Options}
 use Rattle.isolate.proofs.Going.{going_before, may_come}
 use Rattle.isolate.specs.Fits.{IsGoing, MayEndFor, MayComeAbout, Fits}
-use Rattle.record_text.specs.Schedule.{Course, course_after, course_on, running_after, is_end, MayStandBehind, IsInOrder, IsEndWithin, MayFollow, EachMayFollow, IsAtLastStep, has_end, IsLegalSchedule}
+use Rattle.record_text.specs.Schedule.{Course, course_after, course_on, running_after, is_end, MayStandBehind, IsInOrder, IsEndWithin, MayFollow, EachMayFollow, IsAtLastStep, has_end, IsLegalSchedule, none_yet}
 use Rattle.record_text.specs.ScheduleParts.{ScheduleParts}
 use Rattle.record_text.specs.declared.schedule.EndCause.{EndCause}
 use Rattle.record_text.specs.declared.schedule.EndCause.TheVariants as cause
@@ -74,7 +74,7 @@ samples_start_none every (suc step) course =
 -- one session runs
 one_runs : (options : Options) (step : ℕ) → length (running_after (entries_before options step)) ≡ 1
 one_runs options step =
-    let course = course_after (record { started = 0; running = [] }) (Start options) in
+    let course = course_after none_yet (Start options) in
     ap (λ (c : Course). length c.running) (samples_start_none options.interval step course)
 
 -- one entry more

@@ -9,15 +9,15 @@ use Rattle.guest_text.specs.declared.instr.Func.{Func}
 use Rattle.guest_text.specs.InlinedSize.{body_of}
 use Rattle.guest_text.specs.Straight.{IsSetOrHalt, IsStraightBody}
 use Rattle.code_event.specs.DeoptReasons.{no_reasons}
-use Rattle.code_event.specs.ItemFile.{session}
+use Rattle.code_event.specs.ItemFile.{session, ends}
 use Rattle.code_event.specs.Recording.{recording}
 use Rattle.code_event.specs.Seen.{Seen, seen_by, started, finished}
 use Rattle.code_event.specs.declared.event.Options.{Options}
 use Rattle.code_event.specs.declared.seen.Seen.{Seen as ListedSeen}
 use Rattle.guest_machine.specs.PlainMachine.{plain, main_of}
 use Rattle.isolate.specs.Fits.{IsGoing}
-use Rattle.isolate.specs.PlainFile.{tick_at, seen_run, seen_behind, ends_behind}
-use Rattle.record_text.specs.Schedule.{Course}
+use Rattle.isolate.specs.PlainFile.{tick_at, seen_run, seen_behind}
+use Rattle.record_text.specs.Schedule.{none_yet}
 use Rattle.record_text.specs.ScheduleParts.{ScheduleParts}
 use Rattle.record_text.specs.declared.limits.TheConstants.{DEFAULT_RING}
 use Rattle.record_text.specs.declared.schedule.EndCause.TheVariants as cause
@@ -114,16 +114,15 @@ ended_log funcs every step entry schedule schedule' mark seen seen' few is enter
     let all : schedule'.entries ≡ entries_before options step ++ end ∷ [] = ap (λ (s : ScheduleParts). s.entries) entered ∙ λ i. log.entries_are i ++ is i ∷ [] in
     let sees : map seen_by seen' ≡ seen_before funcs options step ++ finished step true no_reasons ∷ [] =
     ap (map seen_by) got ∙ (map-append seen_by seen (mark ∷ []) ∙ λ i. log.seen_are i ++ marks i ∷ []) in
-    let none : Course = record { started = 0; running = [] } in
     let run : seen_run funcs schedule' ≡ seen_before funcs options step ++ finished step true no_reasons ∷ [] =
-    (λ i. seen_behind funcs (head.base i) none 0 0 (all i))
+    (λ i. seen_behind funcs (head.base i) none_yet 0 0 (all i))
     ∙ seen_of_halt funcs every options step halts.index halts.registers (never_gives_up funcs halts.body) (sym log.recording.interval) halts.state_is in
     let last : last_step schedule'.entries ≡ step = ap last_step all ∙ last_pushed (entries_before options step) end in
     record {
       run = run_schedule funcs every step halts.index halts.registers options schedule' few halts.going halts.state_is log.recording head all;
       seen_is = sees ∙ sym run;
       has_file = ap (λ list. is_some (recording 1 list)) sees ∙ has_file funcs options step step no_reasons;
-      ends = ap (ends_behind none) all ∙ one_ends options step end refl;
+      ends = ap ends sees ∙ one_ends funcs options step step no_reasons;
       silent = ap (λ n. (plain funcs n).printed) last ∙ ap (λ state. state.printed) halts.state_is;
     }
 

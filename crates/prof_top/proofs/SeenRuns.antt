@@ -1,16 +1,16 @@
 -- What is seen of a run in which no code is given up and one session samples at its own interval.
 use Rattle.std.proofs.Common.{◌≡◌, ℕ, zero, suc, ◌+◌, ◌-◌, ◌*◌, ◌≤◌, List, [], ◌∷◌, ◌++◌, refl, ap, sym, subst, ◌∙◌, min, max, ◌/◌, ◌%◌, arith}
-use Rattle.std.proofs.lemmas.Bool.{cond_both, cond-false}
-use Rattle.std.proofs.lemmas.Bool.Decides.{nat_tests}
+use Rattle.std.proofs.lemmas.Bool.{cond_both}
 use Rattle.std.proofs.lemmas.List.{append_assoc, append-nil}
-use Rattle.std.proofs.Math.Nat.{div_self, mod_self, mod-eq_of_lt}
-use Rattle.std.specs.Prelude.{Bool, true, false, Some, None, is_some, map, ◌==◌, if◌then◌else◌}
+use Rattle.std.proofs.lemmas.Nat.Gcd.{dvd_antisymm, dvd_refl, dvd-zero}
+use Rattle.std.proofs.Math.Nat.{div_self, mod_self}
+use Rattle.std.specs.Prelude.{Bool, true, false, Some, None, is_some, map, if◌then◌else◌}
 use Rattle.std.specs.List.{AllByRecursion}
 use Rattle.guest_text.specs.declared.instr.Func.{Func}
 use Rattle.code_event.proofs.EachElement.{all_pushed}
 use Rattle.code_event.specs.CodeMap.{same_entry}
 use Rattle.code_event.specs.DeoptReasons.{DeoptReasons, no_reasons}
-use Rattle.code_event.specs.ItemFile.{session}
+use Rattle.code_event.specs.ItemFile.{session, ends, ends_behind}
 use Rattle.code_event.specs.Recording.{recording, recording_behind, with_tick}
 use Rattle.code_event.specs.Seen.{Seen, started, stopped, finished, ticked}
 use Rattle.code_event.specs.declared.entry.Entry.{Entry}
@@ -19,10 +19,11 @@ use Rattle.code_event.specs.declared.recording.Begun.{Begun}
 use Rattle.code_event.specs.declared.seen.ResolvedTick.{ResolvedTick}
 use Rattle.guest_machine.specs.PlainMachine.{plain, deopts, plain_code}
 use Rattle.guest_machine.specs.PlainFrames.{func_entry, reason_in, reasons_of, plain_frames}
-use Rattle.isolate.specs.PlainFile.{tick_at, given_up, given_up_for, seen_of, seen_behind, ends_behind}
+use Rattle.isolate.specs.PlainFile.{tick_at, given_up, given_up_for, seen_of, seen_behind}
 use Rattle.prof_base.specs.Interval.{rounded_of}
-use Rattle.record_text.specs.Schedule.{Course, Running, course_after, course_on}
-use Rattle.record_text.specs.Source.{gcd, gcd_within, source_for}
+use Rattle.record_text.specs.Schedule.{Course, Running, none_yet, course_after, course_on}
+use Rattle.record_text.proofs.Sources.{gcd_is_greatest}
+use Rattle.record_text.specs.Source.{gcd, source_for}
 use Rattle.record_text.specs.declared.schedule.EndCause.TheVariants as cause
 use Rattle.record_text.specs.declared.schedule.What.TheVariants.{Sampled, Start, End}
 use Rattle.record_text.specs.declared.schedule.ScheduleEntry.{ScheduleEntry}
@@ -85,17 +86,12 @@ alone_rounded every some =
     let none : every % every ≡ 0 = mod_self every in
     (λ i. max (once i + min 1 (none i)) 1 * every) ∙ omega arith
 
-not_zero : (n : ℕ) → (suc n == 0) ≡ false
-not_zero n = grind (arith, nat_tests)
-
-alone_divided : (n : ℕ) → 1 ≤ n → gcd 0 n ≡ n
-alone_divided zero some = absurd (omega arith)
-alone_divided (suc n) some =
-    cond-false (suc n == 0) 0 (gcd_within (suc n) (suc n) (0 % suc n)) (not_zero n) ∙ ap (gcd_within (suc n) (suc n)) (mod-eq_of_lt some)
+alone_divided : (n : ℕ) → gcd 0 n ≡ n
+alone_divided n = let divides = gcd_is_greatest 0 n in dvd_antisymm divides.1 (divides.2 n (dvd-zero n) (dvd_refl n))
 
 -- one session that has the base as its interval is sampled at that
 pub source_alone : (every number port : ℕ) → 1 ≤ every → source_for every (record { session = number; port = port; interval = every } ∷ []) ≡ every
-source_alone every number port some = ap (gcd 0) (alone_rounded every some) ∙ alone_divided every some
+source_alone every number port some = ap (gcd 0) (alone_rounded every some) ∙ alone_divided every
 
 no_reason : (funcs : List Func) (entry : Entry) → reason_in funcs (map plain_code funcs) entry ≡ None
 no_reason [] entry = refl
@@ -137,30 +133,29 @@ has_file funcs options step time reasons =
 
 -- the sessions after the start of a run
 abbrev with_one : Options → Course
-with_one options = course_after (record { started = 0; running = [] }) (Start options)
+with_one options = course_after (none_yet) (Start options)
 
-no_sample_ends : (every step : ℕ) (course : Course) (entries : List ScheduleEntry) → ends_behind course (samples_before every step ++ entries) ≡ ends_behind course entries
-no_sample_ends every zero course entries = refl
-no_sample_ends every (suc step) course entries =
-    let before = samples_before every step in
-    cond_both (is_asked every step) (entry_at step Sampled ∷ []) [] (λ more. ends_behind course (before ++ more ++ entries) ≡ ends_behind course entries)
-    (λ asked. ap (ends_behind course) (append_assoc before (entry_at step Sampled ∷ []) entries) ∙ no_sample_ends every step course (entry_at step Sampled ∷ entries))
-    (λ not. ap (λ front. ends_behind course (front ++ entries)) (append-nil before) ∙ no_sample_ends every step course entries)
+no_tick_ends : (running : List ℕ) (ticks seen : List Seen) → AllByRecursion IsTick ticks → ends_behind running (ticks ++ seen) ≡ ends_behind running seen
+no_tick_ends running [] seen all = refl
+no_tick_ends running (ticked tick ∷ ticks) seen all = no_tick_ends running ticks seen all.1
+no_tick_ends running (started s options at ∷ ticks) seen all = absurd all.0
+no_tick_ends running (stopped s at given ∷ ticks) seen all = absurd all.0
+no_tick_ends running (finished at files given ∷ ticks) seen all = absurd all.0
 
 -- just the one session of a run ends, and with its end
-pub one_ends : (options : Options) (step : ℕ) (entry : ScheduleEntry) → entry ≡ entry_at step (End cause.Halt) → ends_behind (record { started = 0; running = [] }) (entries_before options step ++ entry ∷ []) ≡ 1 ∷ []
-one_ends options step entry is =
-    no_sample_ends options.interval step (with_one options) (entry ∷ []) ∙ ap (λ (e : ScheduleEntry). ends_behind (with_one options) (e ∷ [])) is
+pub one_ends : (funcs : List Func) (options : Options) (step time : ℕ) (reasons : DeoptReasons) → ends (seen_before funcs options step ++ finished time true reasons ∷ []) ≡ 1 ∷ []
+one_ends funcs options step time reasons =
+    no_tick_ends (1 ∷ []) (ticks_before funcs options.interval step) (finished time true reasons ∷ []) (ticks_are_ticks funcs options.interval step)
 
 -- what is seen of a run
 pub seen_of_halt : (funcs : List Func) (every : ℕ) (options : Options) (step index : ℕ) (registers : List ℕ) → ((steps : ℕ) → deopts funcs steps ≡ false)
     → every ≡ options.interval → plain funcs step ≡ straight_state funcs index registers true
-    → seen_behind funcs every (record { started = 0; running = [] }) 0 0 (entries_before options step ++ entry_at step (End cause.Halt) ∷ [])
+    → seen_behind funcs every (none_yet) 0 0 (entries_before options step ++ entry_at step (End cause.Halt) ∷ [])
     ≡ seen_before funcs options step ++ finished step true no_reasons ∷ []
 seen_of_halt funcs every options step index registers calm same state =
     let before = entries_before options step in
     let end = entry_at step (End cause.Halt) in
-    let none : Course = record { started = 0; running = [] } in
+    let none : Course = none_yet in
     let source : source_for every (with_one options).running ≡ options.interval =
     ap (λ base. source_for base (with_one options).running) same ∙ source_alone options.interval 1 options.port options.low in
     let ticks : seen_each funcs every none before ≡ seen_before funcs options step =

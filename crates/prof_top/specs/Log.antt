@@ -4,14 +4,13 @@ use Rattle.std.specs.List.{AllByRecursion}
 use Rattle.guest_text.specs.InlinedSize.{body_of}
 use Rattle.guest_text.specs.Straight.{IsSetOrHalt}
 use Rattle.guest_text.specs.declared.instr.Func.{Func}
-use Rattle.code_event.specs.ItemFile.{session}
+use Rattle.code_event.specs.ItemFile.{SessionFile, session, ends}
 use Rattle.code_event.specs.Recording.{recording}
 use Rattle.code_event.specs.Seen.{Seen, started}
 use Rattle.code_event.specs.declared.event.Options.{Options}
 use Rattle.guest_machine.specs.PlainMachine.{plain, main_of}
 use Rattle.isolate.specs.Fits.{IsGoing}
-use Rattle.code_event.specs.ItemFile.{SessionFile}
-use Rattle.isolate.specs.PlainFile.{tick_at, seen_run, ends_behind, plain_files}
+use Rattle.isolate.specs.PlainFile.{tick_at, seen_run, plain_files}
 use Rattle.record_text.specs.ScheduleParts.{ScheduleParts}
 use Rattle.prof_top.specs.PrintedText.{one_file, file_line, printed_text}
 use Rattle.prof_top.specs.RunSchedule.{IsRunSchedule}
@@ -50,7 +49,7 @@ pub record IsRecorded (funcs : List Func) (every : ℕ) (schedule : SchedulePart
   pub run : IsRunSchedule funcs every schedule
   pub seen_is : seen ≡ seen_run funcs schedule
   pub has_file : is_some (recording 1 seen) ≡ true
-  pub ends : ends_behind (record { started = 0; running = [] }) schedule.entries ≡ 1 ∷ []
+  pub ends : ends seen ≡ 1 ∷ []
   pub silent : (plain funcs (last_step schedule.entries)).printed ≡ []
 
 -- the schedules of a run, which are one, with the lines that are printed of it and the text of its file

@@ -1,1 +1,1 @@
-mod Sources
+pub mod Sources

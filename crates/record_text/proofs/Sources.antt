@@ -1,5 +1,5 @@
 -- That the source interval is the greatest common divisor.
-use Rattle.std.proofs.Common.{◌≡◌, ℕ, zero, suc, ◌<◌, ◌%◌, ◌/◌, ◌*◌, ◌^◌, ◌≤◌, List, [], ◌∷◌, ◌++◌, length, take, get_or, refl, ap, subst, sym, ◌+◌, arith}
+use Rattle.std.proofs.Common.{◌≡◌, ℕ, zero, suc, ◌<◌, ◌%◌, ◌/◌, ◌*◌, ◌^◌, List, [], ◌∷◌, ◌++◌, length, take, get_or, refl, ap, subst, sym, ◌+◌, arith}
 use Rattle.std.proofs.lemmas.Bool.{cond_both, eqb-true, ltb-true}
 use Rattle.std.proofs.lemmas.Bool.Decides.{nat_tests}
 use Rattle.std.proofs.lemmas.Nat.Gcd.{IsGcd-from_zero, IsGcd-from_mod, dvd-zero}
@@ -51,9 +51,9 @@ gcd_by_digits (suc digits) a b within =
     (λ rest. IsGcd-from_mod b (a % b) (gcd_within (digits_twice digits) (a % b) (b % (a % b)))
     (gcd_by_digits digits (a % b) (b % (a % b)) (remainder_halves b (a % b) (2 ^ digits) (above_zero (a % b) rest) smaller (omega (arith, within, pow-succ' 2 digits)))))))
 
--- with as many remainders as are enough
-gcd_with_enough : (a b : ℕ) → IsGcd a b (gcd a b)
-gcd_with_enough a b =
+-- the greatest common divisor is one
+pub gcd_is_greatest : (a b : ℕ) → IsGcd a b (gcd a b)
+gcd_is_greatest a b =
     cond_both (nat_lt b (2 ^ 128)) 256 (suc b) (λ times. IsGcd a b (gcd_within times a b))
     (λ within. gcd_by_digits 128 a b (ltb-true b (2 ^ 128) within))
     (λ wide. gcd_is (suc b) a b (omega arith))
@@ -73,7 +73,7 @@ source_is base source prefix [] is = subst (λ xs. IsSourceInterval base xs sour
 source_is base source prefix (interval ∷ intervals) is =
     let rounded = rounded_of base interval in
     let next = gcd source rounded in
-    let more : IsSourceInterval base (prefix ++ interval ∷ []) next = source_of_more base interval source next prefix is (gcd_with_enough source rounded) in
+    let more : IsSourceInterval base (prefix ++ interval ∷ []) next = source_of_more base interval source next prefix is (gcd_is_greatest source rounded) in
     subst (λ xs. IsSourceInterval base xs (source_with base next intervals)) (append_assoc prefix (interval ∷ []) intervals) (source_is base next (prefix ++ interval ∷ []) intervals more)
 
 pub sources_are_greatest : SourcesAreGreatest

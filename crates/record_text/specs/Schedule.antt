@@ -1,5 +1,5 @@
 -- The rules of a schedule. Each entry is checked against all entries before it.
-use Rattle.std.specs.Prelude.{◌≡◌, ℕ, suc, ◌<◌, ◌≤◌, List, [], ◌∷◌, ◌++◌, length, filter, count_by, Contains, Bool, true, false, not, ◌||◌, ◌==◌, Option, Some, None}
+use Rattle.std.specs.Prelude.{◌≡◌, ℕ, suc, ◌<◌, ◌≤◌, List, [], ◌∷◌, ◌++◌, length, filter, count_by, Contains, Bool, true, false, not, ◌||◌, ◌==◌, Some}
 use Rattle.std.specs.List.{AllByRecursion}
 use Rattle.code_event.specs.declared.event.TheConstants.{MAX_SESSIONS}
 use Rattle.record_text.specs.declared.schedule.EndCause.{EndCause}
