@@ -1,38 +1,25 @@
 -- That each session that ends in what is seen has its file there.
 use Rattle.std.proofs.Common.{◌≡◌, ℕ, List, [], ◌∷◌, ◌++◌, inl, inr, refl, ap, subst, ◌∙◌}
 use Rattle.std.proofs.lemmas.Bool.{eqb-true, eq-eqb, both_ways}
-use Rattle.std.specs.Prelude.{Bool, true, false, not, cond, filter, ◌==◌, Option, Some, None, option_map, if◌then◌else◌}
+use Rattle.std.specs.Prelude.{Bool, true, false, not, ◌==◌, Option, Some, None, option_map, if◌then◌else◌}
 use Rattle.std.specs.Option.{is_some, option_to_list}
 use Rattle.std.specs.Ordering.{nat_cmp}
 use Rattle.prof_base.proofs.Ordered.{Has, has_from_contains, has_put}
 use Rattle.prof_base.specs.Ordered.{insert_sorted}
-use Rattle.code_event.specs.FileLaws.{sessions_of, AreStoppedWhileRunning, StoppedSessionsHaveFiles}
-use Rattle.code_event.specs.FileText.{file_text}
-use Rattle.code_event.specs.ItemFile.{SessionFile, session, ends_behind, files_of}
+use Rattle.code_event.proofs.Members.{has_filtered, has_if, flat_map_each}
+use Rattle.code_event.specs.FileLaws.{sessions_of, AreStoppedWhileRunning, FilesAreTheirSessions, StoppedSessionsHaveFiles}
+use Rattle.code_event.specs.FileText.{file, file_text}
+use Rattle.code_event.specs.ItemFile.{SessionFile, session, session_file, ends, ends_behind, files_of, item_files}
 use Rattle.code_event.specs.ItemList.{without}
 use Rattle.code_event.specs.Profile.{profile_of}
 use Rattle.code_event.specs.Recording.{Recording, recording, recording_behind, with_tick, ended}
-use Rattle.code_event.specs.Seen.{Seen, started, stopped, finished, ticked}
+use Rattle.code_event.specs.Seen.{Seen, started, stopped, finished, ticked, seen_items}
 use Rattle.code_event.specs.Subsample.{kept}
 use Rattle.code_event.specs.declared.recording.Begun.{Begun}
-
--- what is left of one element more by a test was there
-has_kept : {X : Type 0} (x y : X) (b : Bool) (xs ys : List X) → Has (cond b (x ∷ xs) xs) y → (Has xs y → Has ys y) → Has (x ∷ ys) y
-has_kept x y true xs ys (inl same) old = inl same
-has_kept x y true xs ys (inr h) old = inr (old h)
-has_kept x y false xs ys h old = inr (old h)
-
-pub has_filtered : {X : Type 0} (test : X → Bool) (xs : List X) (y : X) → Has (filter test xs) y → Has xs y
-has_filtered test [] y h = h
-has_filtered test (x ∷ xs) y h = has_kept x y (test x) (filter test xs) xs h (has_filtered test xs y)
 
 is_some-option_map : {X Y : Type 0} (f : X → Y) (o : Option X) → is_some o ≡ true → is_some (option_map f o) ≡ true
 is_some-option_map f None e = absurd (cc)
 is_some-option_map f (Some x) e = refl
-
-has_if : {X : Type 0} (b : Bool) (xs : List X) (x : X) → Has (if b then xs else []) x → Has xs x
-has_if true xs x h = h
-has_if false xs x h = absurd h
 
 -- a session that ends has a recording, where each is stopped while it runs
 recorded_behind : (number : ℕ) (running : List ℕ) (begun : Option Begun) (seen : List Seen)
@@ -79,3 +66,17 @@ recorded_have_files base seen (number ∷ numbers) each =
 
 pub stopped_sessions_have_files : StoppedSessionsHaveFiles
 stopped_sessions_have_files base seen stops = recorded_have_files base seen (ends_behind [] seen) (λ number ends. recorded_behind number [] None seen stops (λ h. absurd h) ends)
+
+-- a file of one session is its own
+one_is_its_own : (base number : ℕ) (seen : List Seen) (text : Option (List ℕ)) (shown : SessionFile) → file base (session number) seen ≡ text
+    → Has (option_to_list (option_map (λ text. record { session = number; text = text }) text)) shown → file base (session shown.session) seen ≡ Some shown.text
+one_is_its_own base number seen None shown is h = absurd h
+one_is_its_own base number seen (Some text) shown is (inl same) = subst (λ (f : SessionFile). file base (session f.session) seen ≡ Some f.text) same is
+one_is_its_own base number seen (Some text) shown is (inr h) = absurd h
+
+pub files_are_their_sessions : FilesAreTheirSessions
+files_are_their_sessions base items shown has =
+    let seen = seen_items items in
+    flat_map_each (session_file base seen) (λ (f : SessionFile). file base (session f.session) seen ≡ Some f.text) (ends seen)
+    (λ number f h. one_is_its_own base number seen (file base (session number) seen) f refl h)
+    shown (has_from_contains (item_files base items) shown has)

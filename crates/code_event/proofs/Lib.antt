@@ -2,6 +2,8 @@ pub mod Counts
 pub mod Disjoint
 pub mod EachElement
 pub mod EndsHaveFiles
+pub mod LegalStops
+pub mod Members
 pub mod OwnTicks
 pub mod Stamping
 pub mod TreeChildren
