@@ -5,6 +5,7 @@ pub mod EndsHaveFiles
 pub mod LegalStops
 pub mod Members
 pub mod OwnTicks
+pub mod SeenMore
 pub mod Stamping
 pub mod TreeChildren
 pub mod TreeHits
