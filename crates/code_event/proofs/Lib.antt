@@ -2,6 +2,7 @@ pub mod Counts
 pub mod Disjoint
 pub mod EachElement
 pub mod EndsHaveFiles
+pub mod FilesGrow
 pub mod LegalStops
 pub mod Members
 pub mod OwnTicks
