@@ -52,13 +52,15 @@ recorded_behind number running begun (ticked tick ∷ seen) stops begins ends =
 
 -- a session with a recording has one file, and it is its own
 one_file : (base number : ℕ) (recorded : Option Recording) (files : List SessionFile) → is_some recorded ≡ true
-    → sessions_of (option_to_list (option_map (λ text. record { session = number; text = text }) (option_map file_text (option_map (λ r. profile_of (session number) r (kept base r.begun)) recorded))) ++ files)
+    → sessions_of (option_to_list (option_map (λ text. record { session = number; text = text })
+    (option_map file_text (option_map (λ r. profile_of (session number) r (kept base r.begun)) recorded))) ++ files)
     ≡ number ∷ sessions_of files
 one_file base number None files has = absurd (cc)
 one_file base number (Some recorded) files has = refl
 
 -- sessions with recordings have their files, in order
-recorded_have_files : (base : ℕ) (seen : List Seen) (numbers : List ℕ) → ((number : ℕ) → Has numbers number → is_some (recording number seen) ≡ true) → sessions_of (files_of base seen numbers) ≡ numbers
+recorded_have_files : (base : ℕ) (seen : List Seen) (numbers : List ℕ)
+    → ((number : ℕ) → Has numbers number → is_some (recording number seen) ≡ true) → sessions_of (files_of base seen numbers) ≡ numbers
 recorded_have_files base seen [] each = refl
 recorded_have_files base seen (number ∷ numbers) each =
     one_file base number (recording number seen) (files_of base seen numbers) (each number (inl refl))
