@@ -1,7 +1,12 @@
 pub mod Counts
 pub mod Disjoint
 pub mod EachElement
+pub mod EndsHaveFiles
+pub mod FilesGrow
+pub mod LegalStops
+pub mod Members
 pub mod OwnTicks
+pub mod SeenMore
 pub mod Stamping
 pub mod TreeChildren
 pub mod TreeHits

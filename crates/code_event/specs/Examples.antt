@@ -25,7 +25,7 @@ use Rattle.code_event.specs.declared.event.Mode.{Mode}
 use Rattle.code_event.specs.declared.event.Mode.TheVariants.{Leaf, Caller}
 use Rattle.code_event.specs.declared.event.Options.{Options}
 use Rattle.code_event.specs.declared.event.CodeEvent.{CodeEvent}
-use Rattle.code_event.specs.declared.event.CodeEvent.TheVariants.{Create, Start, Stop}
+use Rattle.code_event.specs.declared.event.CodeEvent.TheVariants.{Create, Start, Stop, Finish}
 use Rattle.code_event.specs.declared.tick.VmState.{VmState}
 use Rattle.code_event.specs.declared.tick.VmState.TheVariants.{Js, Idle, Native}
 use Rattle.code_event.specs.declared.tick.Item.{Item}
@@ -171,3 +171,32 @@ two_intervals =
 -- the times of the ticks that a session keeps, at base 1,000
 abbrev pub kept_times : List Item → ℕ → Option (List ℕ)
 kept_times items number = option_map (λ r. map (λ t. t.time) (kept 1000 r.begun)) (recording number (seen_items items))
+
+-- sessions 2 and 1 start, in this order, and then these events come
+abbrev pub two_started : List CodeEvent → List Item
+two_started events =
+    stamped (map event (
+    Start (session 2) (options 1000 (lit≤ tt) (lit≤ tt) Leaf) 0
+    ∷ Start (session 1) (options 1000 (lit≤ tt) (lit≤ tt) Leaf) 0
+    ∷ events
+    ))
+
+-- a finish with files ends both
+abbrev pub ended_together : List Item
+ended_together = two_started (Finish 10 true ∷ [])
+
+-- a finish without files ends both
+abbrev pub ended_without_files : List Item
+ended_without_files = two_started (Finish 10 false ∷ [])
+
+-- session 1 is stopped, and a finish with files ends session 2
+abbrev pub lower_stopped : List Item
+lower_stopped = two_started (Stop (session 1) 10 ∷ Finish 20 true ∷ [])
+
+-- session 2 is stopped, and a finish with files ends session 1
+abbrev pub higher_stopped : List Item
+higher_stopped = two_started (Stop (session 2) 10 ∷ Finish 20 true ∷ [])
+
+-- session 1 is stopped and was never started: the list is not legal
+abbrev pub never_started : List Item
+never_started = stamped (event (Stop (session 1) 10) ∷ [])

@@ -4,8 +4,9 @@ ghost use Rattle.code_event.specs.CodeMap.{ranges, range_of};
 ghost use Rattle.code_event.specs.Symbolizer.{frames_over, leaf_path, caller_path, leaf_line};
 ghost use Rattle.code_event.specs.Seen.{seen_items};
 ghost use Rattle.code_event.specs.Profile.{finished_of};
-ghost use Rattle.code_event.specs.ItemFile.{item_file, session};
-ghost use Rattle.code_event.specs.Examples.{overlap_fold, overlap_file, inlined, frame, path_step, three_slots, two_sessions, first_of_two, second_of_two, two_intervals, kept_times};
+ghost use Rattle.code_event.specs.ItemFile.{item_file, item_files, ends, session};
+ghost use Rattle.code_event.specs.FileLaws.{sessions_of};
+ghost use Rattle.code_event.specs.Examples.{overlap_fold, overlap_file, inlined, frame, path_step, three_slots, two_sessions, first_of_two, second_of_two, two_intervals, kept_times, ended_together, ended_without_files, lower_stopped, higher_stopped, never_started};
 ghost use Rattle.code_event.specs.declared.event.CodeEvent.TheVariants as event;
 ghost use Rattle.code_event.specs.declared.tick.VmState.TheVariants as state;
 
@@ -41,4 +42,25 @@ pub fn two_sessions_have_their_own_profiles()
 /// file is this one, byte for byte.
 pub fn overlap_takes_a_function_away()
     ensures { item_file 1000 overlap_fold (session 1) ≡ Some overlap_file }
+{}
+
+/// Sessions that a finish with files ends together end by their numbers, whichever started first; a
+/// finish without files leaves them no file.
+pub fn a_finish_ends_sessions_by_their_numbers()
+    ensures with_files { sessions_of (item_files 1000 ended_together) ≡ 1 ∷ 2 ∷ [] }
+    ensures without_files { sessions_of (item_files 1000 ended_without_files) ≡ [] }
+{}
+
+/// The file of a session that is stopped comes before those of the sessions that a finish ends
+/// later, whatever their numbers are.
+pub fn files_of_stops_come_before_those_of_the_finish()
+    ensures lower { sessions_of (item_files 1000 lower_stopped) ≡ 1 ∷ 2 ∷ [] }
+    ensures higher { sessions_of (item_files 1000 higher_stopped) ≡ 2 ∷ 1 ∷ [] }
+{}
+
+/// In a list that is not legal a session may end without a file: here it is stopped and was never
+/// started.
+pub fn a_session_that_was_never_started_has_no_file()
+    ensures ended { ends (seen_items never_started) ≡ 1 ∷ [] }
+    ensures files { item_files 1000 never_started ≡ [] }
 {}

@@ -3,6 +3,8 @@
 ghost use Rattle.std.specs.Prelude.{◌≡◌};
 
 mod events;
+mod files;
+mod moments;
 mod tree;
 
 use crate::event::MAX_SESSIONS;
@@ -11,6 +13,10 @@ use crate::tick::Frames;
 pub use events::{
     other_ticks_do_not_matter, ranges_are_disjoint, stamping_gives_stamps, stamps_are_unique,
 };
+pub use files::{
+    each_item_adds_the_files_of_the_sessions_that_it_ends, each_session_that_ends_has_its_file,
+};
+pub use moments::items_are_seen_by_the_events_before;
 pub use tree::{
     each_hit_is_at_one_line, each_hit_is_of_one_node, each_node_but_the_root_is_one_child,
     each_sample_is_a_node, every_node_but_the_root_has_a_parent, ids_number_the_nodes,
