@@ -2,6 +2,7 @@ pub mod Counts
 pub mod Disjoint
 pub mod EachElement
 pub mod OwnTicks
+pub mod Recordings
 pub mod Stamping
 pub mod TreeChildren
 pub mod TreeHits
