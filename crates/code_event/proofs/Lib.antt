@@ -4,6 +4,7 @@ pub mod EachElement
 pub mod OwnTicks
 pub mod Recordings
 pub mod Stamping
+pub mod Subsamples
 pub mod TreeChildren
 pub mod TreeHits
 pub mod TreeIds

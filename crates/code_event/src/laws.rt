@@ -12,7 +12,9 @@ use crate::tick::Frames;
 pub use events::{
     other_ticks_do_not_matter, ranges_are_disjoint, stamping_gives_stamps, stamps_are_unique,
 };
-pub use recordings::recordings_stand_between_their_marks;
+pub use recordings::{
+    kept_ticks_are_those_at_which_intervals_add_up, recordings_stand_between_their_marks,
+};
 pub use tree::{
     each_hit_is_at_one_line, each_hit_is_of_one_node, each_node_but_the_root_is_one_child,
     each_sample_is_a_node, every_node_but_the_root_has_a_parent, ids_number_the_nodes,
