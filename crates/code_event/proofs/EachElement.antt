@@ -23,3 +23,11 @@ all_mapped P Q (x ∷ xs) each all = (each x all.0, all_mapped P Q xs each all.1
 pub all_pushed : {X : Type 0} (P : X → Type 0) (xs : List X) (y : X) → AllByRecursion P xs → P y → AllByRecursion P (xs ++ y ∷ [])
 all_pushed P [] y all last = (last, tt)
 all_pushed P (x ∷ xs) y all last = (all.0, all_pushed P xs y all.1 last)
+
+pub all_of_first : {X : Type 0} (P : X → Type 0) (xs ys : List X) → AllByRecursion P (xs ++ ys) → AllByRecursion P xs
+all_of_first P [] ys all = tt
+all_of_first P (x ∷ xs) ys all = (all.0, all_of_first P xs ys all.1)
+
+pub all_of_second : {X : Type 0} (P : X → Type 0) (xs ys : List X) → AllByRecursion P (xs ++ ys) → AllByRecursion P ys
+all_of_second P [] ys all = all
+all_of_second P (x ∷ xs) ys all = all_of_second P xs ys all.1

@@ -6,8 +6,10 @@ pub mod FilesGrow
 pub mod LegalStops
 pub mod Members
 pub mod OwnTicks
+pub mod Recordings
 pub mod SeenMore
 pub mod Stamping
+pub mod Subsamples
 pub mod TreeChildren
 pub mod TreeHits
 pub mod TreeIds

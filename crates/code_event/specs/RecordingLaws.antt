@@ -1,5 +1,5 @@
 -- A session's recording by where its start, its ticks and its end are, and its kept ticks by sums.
-use Rattle.std.specs.Prelude.{◌≡◌, ℕ, ◌+◌, ◌≤◌, ◌↔◌, ◌⊎◌, List, [], ◌∷◌, ◌++◌, map, sum_by, Bool, true, false, ◌&&◌, ◌==◌, nat_lt, Option, Some, None, if◌then◌else◌}
+use Rattle.std.specs.Prelude.{◌≡◌, ℕ, ◌+◌, ◌≤◌, ◌↔◌, ◌⊎◌, List, [], ◌∷◌, ◌++◌, map, sum_by, Bool, true, false, ◌&&◌, ◌==◌, nat_lt, Some, None, if◌then◌else◌}
 use Rattle.std.specs.List.{AllByRecursion}
 use Rattle.code_event.specs.DeoptReasons.{DeoptReasons}
 use Rattle.code_event.specs.ItemFile.{session}

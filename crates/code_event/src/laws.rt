@@ -5,6 +5,7 @@ ghost use Rattle.std.specs.Prelude.{◌≡◌};
 mod events;
 mod files;
 mod moments;
+mod recordings;
 mod tree;
 
 use crate::event::MAX_SESSIONS;
@@ -17,6 +18,9 @@ pub use files::{
     each_item_adds_the_files_of_the_sessions_that_it_ends, each_session_that_ends_has_its_file,
 };
 pub use moments::items_are_seen_by_the_events_before;
+pub use recordings::{
+    kept_ticks_are_those_at_which_intervals_add_up, recordings_stand_between_their_marks,
+};
 pub use tree::{
     each_hit_is_at_one_line, each_hit_is_of_one_node, each_node_but_the_root_is_one_child,
     each_sample_is_a_node, every_node_but_the_root_has_a_parent, ids_number_the_nodes,
