@@ -1,3 +1,4 @@
+pub mod Deopts
 pub mod Ends
 mod Kept
 pub mod InBody

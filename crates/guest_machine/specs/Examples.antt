@@ -73,3 +73,11 @@ growing =
 -- a function is optimised, given up, and given up once more, when there is nothing to give up
 abbrev pub deoptimising : List Func
 deoptimising = main_and (op.Opt (func 1) ∷ op.Deopt (func 1) (codes "x") ∷ op.Deopt (func 1) (codes "y") ∷ op.Halt ∷ []) false (op.Ret ∷ [])
+
+-- the last instruction of the body would give up an optimised function, but its index cannot rise
+abbrev pub deoptimising_last : List Func
+deoptimising_last = main_and (op.Opt (func 1) ∷ op.Deopt (func 1) (codes "x") ∷ []) false (op.Ret ∷ [])
+
+-- a function is optimised, and then disabled
+abbrev pub disabling : List Func
+disabling = main_and (op.Opt (func 1) ∷ op.NoOpt (func 1) (codes "x") ∷ op.Halt ∷ []) false (op.Ret ∷ [])

@@ -3,7 +3,7 @@
 ghost use Rattle.std.specs.Prelude.{◌≡◌, [], ◌∷◌, Some, None, true, false, codes, length};
 ghost use Rattle.guest_machine.specs.PlainMachine.{plain, deopts, code_at};
 ghost use Rattle.guest_text.specs.InlinedSize.{inlined_size};
-ghost use Rattle.guest_machine.specs.Examples.{places, waiting, calling, deep, running_off, growing, deoptimising, registers_of};
+ghost use Rattle.guest_machine.specs.Examples.{places, waiting, calling, deep, running_off, growing, deoptimising, deoptimising_last, disabling, registers_of};
 ghost use Rattle.guest_machine.specs.declared.ended.Ended.TheVariants as end;
 ghost use Rattle.code_event.specs.declared.tick.VmState.TheVariants as state;
 
@@ -54,4 +54,19 @@ pub fn only_optimised_code_is_given_up()
     ensures reason { (code_at (plain deoptimising 2) 1).reason ≡ Some (codes "x") }
     ensures once { deopts deoptimising 2 ≡ false }
     ensures stays { (code_at (plain deoptimising 3) 1).reason ≡ Some (codes "x") }
+{}
+
+/// A deoptimisation that would leave the body ends the machine instead, and takes nothing away.
+pub fn a_deoptimisation_that_leaves_the_body_is_none()
+    ensures optimised { (code_at (plain deoptimising_last 1) 1).optimised ≡ true }
+    ensures none { deopts deoptimising_last 1 ≡ false }
+    ensures ended { (plain deoptimising_last 2).ended ≡ Some end.OffEnd }
+    ensures stays { (code_at (plain deoptimising_last 2) 1).optimised ≡ true }
+{}
+
+/// A function that is disabled keeps the optimised code that it has.
+pub fn what_is_disabled_keeps_its_code()
+    ensures optimised { (code_at (plain disabling 1) 1).optimised ≡ true }
+    ensures none { deopts disabling 1 ≡ false }
+    ensures code { code_at (plain disabling 2) 1 ≡ record { optimised = true; disabled = true; reason = Some (codes "x") } }
 {}

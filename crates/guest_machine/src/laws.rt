@@ -1,5 +1,5 @@
 //! Laws of the plain machine. Each function does nothing: its contract is the law.
-ghost use Rattle.guest_machine.specs.Laws.{CodeIsOfFunctions, EndsAreFinal, FramesAreInBodies, FramesHaveInstructions, FramesHaveRegisters, NoneIsGivenUpAtTheEnd, StacksAreNotEmpty, StacksAreSmall};
+ghost use Rattle.guest_machine.specs.Laws.{CodeIsOfFunctions, DeoptsTakeCodeAway, EndsAreFinal, FramesAreInBodies, FramesHaveInstructions, FramesHaveRegisters, NoneIsGivenUpAtTheEnd, StacksAreNotEmpty, StacksAreSmall};
 
 /// Once the machine has ended, no step changes it, and none makes a deoptimisation.
 pub fn nothing_follows_the_end()
@@ -28,4 +28,10 @@ pub fn each_frame_is_in_its_body()
 /// Each frame always has eight registers, and each register is less than 2^64, whatever the program.
 pub fn registers_are_below_two_to_the_64()
     ensures { FramesHaveRegisters }
+{}
+
+/// A deoptimisation is a step after which some function that was optimised is optimised no more, and
+/// there is no other.
+pub fn deoptimisations_take_code_away()
+    ensures { DeoptsTakeCodeAway }
 {}
