@@ -1,1 +1,2 @@
+pub mod EntriesMore
 pub mod Going
