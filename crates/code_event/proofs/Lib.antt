@@ -1,6 +1,7 @@
 pub mod Counts
 pub mod Disjoint
 pub mod EachElement
+pub mod EndsHaveFiles
 pub mod OwnTicks
 pub mod Stamping
 pub mod TreeChildren
