@@ -1,10 +1,10 @@
 -- One entry more: the sessions after it, and what is seen of it.
-use Rattle.std.proofs.Common.{◌≡◌, ℕ, ◌-◌, List, [], ◌∷◌, ◌++◌, length, take, refl, ap, sym, ◌∙◌}
+use Rattle.std.proofs.Common.{◌≡◌, ℕ, ◌-◌, List, [], ◌∷◌, ◌++◌, length, take, refl, ap, ◌∙◌}
 use Rattle.std.proofs.lemmas.List.{append_assoc, append-nil}
 use Rattle.std.proofs.Math.Seq.{take-append_seam}
 use Rattle.guest_text.specs.declared.instr.Func.{Func}
 use Rattle.code_event.specs.Seen.{Seen}
-use Rattle.record_text.specs.Schedule.{Course, none_yet, course_after, course_on, running_after}
+use Rattle.record_text.specs.Schedule.{Course, course_after, course_on, running_after}
 use Rattle.record_text.specs.ScheduleParts.{ScheduleParts}
 use Rattle.record_text.specs.Source.{source_for, source_after}
 use Rattle.record_text.specs.declared.schedule.ScheduleEntry.{ScheduleEntry}
@@ -36,6 +36,7 @@ seen_behind-push funcs base course step time (entry ∷ entries) next =
     (given_up_for end.running funcs (time_behind entry.time entries) last_step (next.step - last_step)) (seen_of funcs base end next.step next.time next.what)
 
 -- the source interval after the entries before some place is that of the sessions that run there
-pub source_after-length : (schedule : ScheduleParts) (before after : List ScheduleEntry) → schedule.entries ≡ before ++ after → source_after schedule (length before) ≡ source_for schedule.base (running_after before)
+pub source_after-length : (schedule : ScheduleParts) (before after : List ScheduleEntry) → schedule.entries ≡ before ++ after
+    → source_after schedule (length before) ≡ source_for schedule.base (running_after before)
 source_after-length schedule before after parts =
     ap (λ (entries : List ScheduleEntry). source_for schedule.base (running_after entries)) (ap (take (length before)) parts ∙ take-append_seam before after)

@@ -1,5 +1,5 @@
 -- The sessions that end in what is seen of a legal schedule, in order, and the files of each.
-use Rattle.std.proofs.Common.{◌≡◌, ℕ, zero, suc, ◌-◌, ◌≤◌, ◌<◌, List, [], ◌∷◌, ◌++◌, map, Bool, true, false, cond, Ordering, Greater, ◌⊎◌, inl, inr, refl, ap, sym, subst, ◌∙◌, arith}
+use Rattle.std.proofs.Common.{◌≡◌, ℕ, zero, suc, ◌-◌, ◌≤◌, ◌<◌, List, [], ◌∷◌, ◌++◌, map, Bool, true, false, cond, Greater, inl, inr, refl, ap, sym, subst, ◌∙◌, arith}
 use Rattle.std.specs.Prelude.{Option, Some, None, option_map, filter, not, ◌==◌}
 use Rattle.std.specs.Cmp.{nat_cmp_is}
 use Rattle.std.specs.List.{AllByRecursion, Contains}
@@ -67,18 +67,21 @@ numbered_after course (Stop port number) numbered = all_filtered (λ running. ru
 numbered_after course (End cause) numbered = numbered
 
 -- a greater number is inserted at the end
-inserted_last : (running : List Running) (new : Running) → AllByRecursion (λ running. running.session < new.session) running → insert_sorted nat_cmp new.session (sessions running) ≡ sessions (running ++ new ∷ [])
+inserted_last : (running : List Running) (new : Running) → AllByRecursion (λ running. running.session < new.session) running
+    → insert_sorted nat_cmp new.session (sessions running) ≡ sessions (running ++ new ∷ [])
 inserted_last [] new lower = refl
 inserted_last (first ∷ running) new lower =
     let greater : nat_cmp new.session first.session ≡ Greater = sym (nat_cmp_is new.session first.session Greater lower.0) in
     rw greater (ap (λ numbers. first.session ∷ numbers) (inserted_last running new lower.1))
 
-started_last : (course : Course) (new : Running) → new.session ≡ suc course.started → AreNumbered course → insert_sorted nat_cmp new.session (sessions course.running) ≡ sessions (course.running ++ new ∷ [])
+started_last : (course : Course) (new : Running) → new.session ≡ suc course.started → AreNumbered course
+    → insert_sorted nat_cmp new.session (sessions course.running) ≡ sessions (course.running ++ new ∷ [])
 started_last course new number numbered =
     inserted_last course.running new
     (all_mapped (λ running. running.session ≤ course.started) (λ running. running.session < new.session) course.running (λ running low. omega (arith, low, number)) numbered)
 
-sessions-if : (first : Running) (running : List Running) (numbers : List ℕ) (b : Bool) → sessions running ≡ numbers → sessions (cond b (first ∷ running) running) ≡ cond b (first.session ∷ numbers) numbers
+sessions-if : (first : Running) (running : List Running) (numbers : List ℕ) (b : Bool) → sessions running ≡ numbers
+    → sessions (cond b (first ∷ running) running) ≡ cond b (first.session ∷ numbers) numbers
 sessions-if first running numbers true same = ap (λ numbers. first.session ∷ numbers) same
 sessions-if first running numbers false same = same
 
@@ -87,16 +90,17 @@ without-sessions number [] = refl
 without-sessions number (first ∷ running) =
     sym (sessions-if first (filter (λ running. not (running.session == number)) running) (without number (sessions running)) (not (first.session == number)) (sym (without-sessions number running)))
 
-has_session : (running : List Running) (one : Running) → Has running one → Has (sessions running) one.session
-has_session [] one h = absurd h
-has_session (first ∷ running) one (inl same) = inl (ap (λ (running : Running). running.session) same)
-has_session (first ∷ running) one (inr later) = inr (has_session running one later)
+has_number : (running : List Running) (one : Running) → Has running one → Has (sessions running) one.session
+has_number [] one h = absurd h
+has_number (first ∷ running) one (inl same) = inl (ap (λ (running : Running). running.session) same)
+has_number (first ∷ running) one (inr later) = inr (has_number running one later)
 
-contains_session : (running : List Running) (one : Running) → Contains running one → Contains (sessions running) one.session
-contains_session running one h = contains_from_has (sessions running) one.session (has_session running one (has_from_contains running one h))
+contains_number : (running : List Running) (one : Running) → Contains running one → Contains (sessions running) one.session
+contains_number running one h = contains_from_has (sessions running) one.session (has_number running one (has_from_contains running one h))
 
--- ---- ticks end nothing
+-- ---- the ticks of deoptimisations
 
+-- what a tick leaves true, they leave true
 over_given_up : (P : List Seen → Type 0) → ((tick : ResolvedTick) (seen : List Seen) → P seen → P (ticked tick ∷ seen))
     → (funcs : List Func) (time step more : ℕ) (rest : List Seen) → P rest → P (given_up funcs time step more ++ rest)
 over_given_up P ticks funcs time step zero rest holds = holds
@@ -127,14 +131,15 @@ entry_ends funcs base course step time (End cause) rest later numbered last same
     let ended : List ℕ = ended_by course (End cause) in
     sym (append-nil ended) ∙ ap (λ numbers. ended ++ numbers) (sym (last refl))
 
-not_behind_end : (schedule : ScheduleParts) (before : List ScheduleEntry) (entry next : ScheduleEntry) → is_end entry.what ≡ true → IsInOrder (before ++ entry ∷ []) next → ⊥
-not_behind_end schedule [] entry next ending order = both_ways (is_end entry.what) order.0.going_on ending
-not_behind_end schedule (first ∷ before) entry next ending order = not_behind_end schedule before entry next ending order.1
+not_behind_end : (before : List ScheduleEntry) (entry next : ScheduleEntry) → is_end entry.what ≡ true → IsInOrder (before ++ entry ∷ []) next → ⊥
+not_behind_end [] entry next ending order = both_ways (is_end entry.what) order.0.going_on ending
+not_behind_end (first ∷ before) entry next ending order = not_behind_end before entry next ending order.1
 
 -- nothing follows an end
-end_is_last : (schedule : ScheduleParts) (before : List ScheduleEntry) (entry : ScheduleEntry) (entries : List ScheduleEntry) → is_end entry.what ≡ true → EachMayFollow schedule (before ++ entry ∷ []) entries → entries ≡ []
+end_is_last : (schedule : ScheduleParts) (before : List ScheduleEntry) (entry : ScheduleEntry) (entries : List ScheduleEntry) → is_end entry.what ≡ true
+    → EachMayFollow schedule (before ++ entry ∷ []) entries → entries ≡ []
 end_is_last schedule before entry [] ending each = refl
-end_is_last schedule before entry (next ∷ entries) ending each = absurd (not_behind_end schedule before entry next ending each.0.order)
+end_is_last schedule before entry (next ∷ entries) ending each = absurd (not_behind_end before entry next ending each.0.order)
 
 pub ends_on : (funcs : List Func) (schedule : ScheduleParts) (course : Course) (step time : ℕ) (before entries : List ScheduleEntry) → AreNumbered course → EachMayFollow schedule before entries
     → ends_behind (sessions course.running) (seen_behind funcs schedule.base course step time entries) ≡ ended_on course entries
@@ -161,9 +166,9 @@ entry_stops funcs base course step time Dropped rest numbered has later = later
 entry_stops funcs base course step time (Start options) rest numbered has later =
     subst (λ numbers. AreStoppedWhileRunning numbers rest) (sym (started_last course (record { session = suc course.started; port = options.port; interval = options.interval }) refl numbered)) later
 entry_stops funcs base course step time (Stop port number) rest numbered has later = (
-    contains_session course.running (record { session = number.0; port = port; interval = has.0 }) has.1,
-    subst (λ numbers. AreStoppedWhileRunning numbers rest) (sym (without-sessions number.0 course.running)) later,
-  )
+  contains_number course.running (record { session = number.0; port = port; interval = has.0 }) has.1,
+  subst (λ numbers. AreStoppedWhileRunning numbers rest) (sym (without-sessions number.0 course.running)) later,
+)
 entry_stops funcs base course step time (End cause) rest numbered has later = tt
 
 pub stops_on : (funcs : List Func) (schedule : ScheduleParts) (course : Course) (step time : ℕ) (before entries : List ScheduleEntry) → course_on none_yet before ≡ course → AreNumbered course
