@@ -1,1 +1,3 @@
+pub mod EntriesMore
+pub mod FileOrder
 pub mod Going
