@@ -2,6 +2,7 @@
 use Rattle.std.proofs.Common.{◌≡◌, ℕ, List, [], ◌∷◌, ◌++◌, inl, inr, refl, ap, subst, ◌∙◌}
 use Rattle.std.proofs.lemmas.Bool.{eqb-true, eq-eqb, both_ways}
 use Rattle.std.specs.Prelude.{Bool, true, false, not, ◌==◌, Option, Some, None, option_map, if◌then◌else◌}
+use Rattle.std.specs.List.{Contains}
 use Rattle.std.specs.Option.{is_some, option_to_list}
 use Rattle.std.specs.Ordering.{nat_cmp}
 use Rattle.prof_base.proofs.Ordered.{Has, has_from_contains, has_put}
@@ -9,7 +10,7 @@ use Rattle.prof_base.specs.Ordered.{insert_sorted}
 use Rattle.code_event.proofs.Members.{has_filtered, has_if, flat_map_each}
 use Rattle.code_event.specs.FileLaws.{sessions_of, AreStoppedWhileRunning, FilesAreTheirSessions, StoppedSessionsHaveFiles}
 use Rattle.code_event.specs.FileText.{file, file_text}
-use Rattle.code_event.specs.ItemFile.{SessionFile, session, session_file, ends, ends_behind, files_of, item_files}
+use Rattle.code_event.specs.ItemFile.{SessionFile, session, session_file, ends, ends_behind, files_of}
 use Rattle.code_event.specs.ItemList.{without}
 use Rattle.code_event.specs.Profile.{profile_of}
 use Rattle.code_event.specs.Recording.{Recording, recording, recording_behind, with_tick, ended}
@@ -76,9 +77,12 @@ one_is_its_own base number seen None shown is h = absurd h
 one_is_its_own base number seen (Some text) shown is (inl same) = subst (λ (f : SessionFile). file base (session f.session) seen ≡ Some f.text) same is
 one_is_its_own base number seen (Some text) shown is (inr h) = absurd h
 
-pub files_are_their_sessions : FilesAreTheirSessions
-files_are_their_sessions base items shown has =
-    let seen = seen_items items in
-    flat_map_each (session_file base seen) (λ (f : SessionFile). file base (session f.session) seen ≡ Some f.text) (ends seen)
+-- each of the files of some sessions is its session's
+pub of_its_session : (base : ℕ) (seen : List Seen) (numbers : List ℕ) (shown : SessionFile) → Contains (files_of base seen numbers) shown → file base (session shown.session) seen ≡ Some shown.text
+of_its_session base seen numbers shown has =
+    flat_map_each (session_file base seen) (λ (f : SessionFile). file base (session f.session) seen ≡ Some f.text) numbers
     (λ number f h. one_is_its_own base number seen (file base (session number) seen) f refl h)
-    shown (has_from_contains (item_files base items) shown has)
+    shown (has_from_contains (files_of base seen numbers) shown has)
+
+pub files_are_their_sessions : FilesAreTheirSessions
+files_are_their_sessions base items = of_its_session base (seen_items items) (ends (seen_items items))

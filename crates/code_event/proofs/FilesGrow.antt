@@ -29,22 +29,22 @@ use Rattle.code_event.specs.declared.tick.Item.{Item}
 use Rattle.code_event.specs.declared.tick.Item.TheVariants as item
 
 -- something that is seen ends the session's recording
-abbrev pub closes : ℕ → List Seen → Bool
-closes number [] = false
-closes number (started s options time ∷ seen) = closes number seen
-closes number (stopped s time reasons ∷ seen) = (s.0 == number) || closes number seen
-closes number (finished time files reasons ∷ seen) = true
-closes number (ticked tick ∷ seen) = closes number seen
+abbrev pub has_close : ℕ → List Seen → Bool
+has_close number [] = false
+has_close number (started s options time ∷ seen) = has_close number seen
+has_close number (stopped s time reasons ∷ seen) = (s.0 == number) || has_close number seen
+has_close number (finished time files reasons ∷ seen) = true
+has_close number (ticked tick ∷ seen) = has_close number seen
 
 -- what is seen after that does not change the recording
-pub recording-closed : (number : ℕ) (begun : Option Begun) (seen more : List Seen) → closes number seen ≡ true
+pub recording-closed : (number : ℕ) (begun : Option Begun) (seen more : List Seen) → has_close number seen ≡ true
     → recording_behind number begun (seen ++ more) ≡ recording_behind number begun seen
 recording-closed number begun [] more closed = absurd (cc closed)
 recording-closed number begun (started s options time ∷ seen) more closed =
     let again : Option Begun = Some (record { options = options; start = time; ticks = [] }) in
     λ i. if s.0 == number then recording-closed number again seen more closed i else recording-closed number begun seen more closed i
 recording-closed number begun (stopped s time reasons ∷ seen) more closed =
-    elim (s.0 == number) as (λ (b : Bool). (b || closes number seen) ≡ true
+    elim (s.0 == number) as (λ (b : Bool). (b || has_close number seen) ≡ true
     → (if b then ended begun time reasons else recording_behind number begun (seen ++ more)) ≡ (if b then ended begun time reasons else recording_behind number begun seen)) [
       | true ↦ λ e. refl
       | false ↦ λ e. recording-closed number begun seen more e
@@ -71,18 +71,18 @@ same_number : (n : ℕ) → (n == n) ≡ true
 same_number n = grind (arith, nat_tests)
 
 -- the recordings of sessions that were stopped are closed
-ended_closed : (running : List ℕ) (seen : List Seen) → AllByRecursion IsOpen seen → AllByRecursion (λ n. closes n seen ≡ true) (ends_behind running seen)
+ended_closed : (running : List ℕ) (seen : List Seen) → AllByRecursion IsOpen seen → AllByRecursion (λ n. has_close n seen ≡ true) (ends_behind running seen)
 ended_closed running [] unfinished = tt
 ended_closed running (started s options time ∷ seen) unfinished = ended_closed (insert_sorted nat_cmp s.0 running) seen unfinished.1
 ended_closed running (stopped s time reasons ∷ seen) unfinished = (
-  ap (λ (b : Bool). b || closes s.0 seen) (same_number s.0),
-  all_mapped (λ n. closes n seen ≡ true) (λ n. ((s.0 == n) || closes n seen) ≡ true) (ends_behind (without s.0 running) seen)
-      (λ n is. or_true (s.0 == n) (closes n seen) is) (ended_closed (without s.0 running) seen unfinished.1),
+  ap (λ (b : Bool). b || has_close s.0 seen) (same_number s.0),
+  all_mapped (λ n. has_close n seen ≡ true) (λ n. ((s.0 == n) || has_close n seen) ≡ true) (ends_behind (without s.0 running) seen)
+      (λ n is. or_true (s.0 == n) (has_close n seen) is) (ended_closed (without s.0 running) seen unfinished.1),
 )
 ended_closed running (finished time files reasons ∷ seen) unfinished = absurd unfinished.0
 ended_closed running (ticked tick ∷ seen) unfinished = ended_closed running seen unfinished.1
 
-files_same : (base : ℕ) (seen more : List Seen) (numbers : List ℕ) → AllByRecursion (λ n. closes n seen ≡ true) numbers → files_of base (seen ++ more) numbers ≡ files_of base seen numbers
+files_same : (base : ℕ) (seen more : List Seen) (numbers : List ℕ) → AllByRecursion (λ n. has_close n seen ≡ true) numbers → files_of base (seen ++ more) numbers ≡ files_of base seen numbers
 files_same base seen more [] closed = refl
 files_same base seen more (n ∷ numbers) closed =
     let here : file base (session n) (seen ++ more) ≡ file base (session n) seen = same_file base (session n) (seen ++ more) seen (recording-closed n None seen more closed.0) in

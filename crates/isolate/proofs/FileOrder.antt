@@ -1,20 +1,17 @@
--- The sessions that end in what is seen of a legal schedule, in order, and the files of each.
+-- The sessions that end in what is seen of a legal schedule, in order.
 use Rattle.std.proofs.Common.{◌≡◌, ℕ, zero, suc, ◌-◌, ◌≤◌, ◌<◌, List, [], ◌∷◌, ◌++◌, map, Bool, true, false, cond, Greater, inl, inr, refl, ap, sym, subst, ◌∙◌, arith}
-use Rattle.std.specs.Prelude.{Option, Some, None, option_map, filter, not, ◌==◌}
+use Rattle.std.specs.Prelude.{None, filter, not, ◌==◌}
 use Rattle.std.specs.Cmp.{nat_cmp_is}
 use Rattle.std.specs.List.{AllByRecursion, Contains}
-use Rattle.std.specs.Option.{option_to_list}
 use Rattle.std.specs.Ordering.{nat_cmp}
 use Rattle.std.proofs.lemmas.Bool.{both_ways, cond_both}
 use Rattle.std.proofs.lemmas.List.{append_assoc, append-nil}
-use Rattle.std.proofs.lemmas.List.Elements.{Contains-append_cases, Contains-push_cases}
 use Rattle.prof_base.specs.Ordered.{insert_sorted}
 use Rattle.prof_base.proofs.Ordered.{Has, has_from_contains, contains_from_has}
 use Rattle.guest_text.specs.declared.instr.Func.{Func}
 use Rattle.guest_machine.specs.PlainMachine.{deopts}
 use Rattle.code_event.specs.FileLaws.{AreStoppedWhileRunning}
-use Rattle.code_event.specs.FileText.{file}
-use Rattle.code_event.specs.ItemFile.{SessionFile, session, session_file, files_of, ends, ends_behind}
+use Rattle.code_event.specs.ItemFile.{ends, ends_behind}
 use Rattle.code_event.specs.ItemList.{without}
 use Rattle.code_event.specs.Seen.{Seen, ticked}
 use Rattle.code_event.specs.declared.seen.ResolvedTick.{ResolvedTick}
@@ -27,25 +24,6 @@ use Rattle.record_text.specs.declared.schedule.ScheduleEntry.{ScheduleEntry}
 use Rattle.isolate.specs.PlainFile.{given_up, given_up_for, seen_of, seen_behind, seen_run, tick_at}
 use Rattle.isolate.specs.RunLaws.{ended_by, ended_on}
 use Rattle.isolate.proofs.EntriesMore.{course_on-push}
-
--- ---- the text of a file
-
-in_file : (number : ℕ) (text : Option (List ℕ)) (one : SessionFile)
-    → Contains (option_to_list (option_map (λ text. record { session = number; text = text }) text)) one → (number ≡ one.session) × (text ≡ Some one.text)
-in_file number None one h = absurd (omega (arith, h.1))
-in_file number (Some text) one h = elim (Contains-push_cases [] (record { session = number; text = text }) one h) [
-  | inl none ↦ absurd (omega (arith, none.1))
-  | inr same ↦ (ap (λ (file : SessionFile). file.session) same, ap (λ (file : SessionFile). Some file.text) same)
-]
-
-pub in_files : (base : ℕ) (seen : List Seen) (numbers : List ℕ) (one : SessionFile) → Contains (files_of base seen numbers) one → file base (session one.session) seen ≡ Some one.text
-in_files base seen [] one h = absurd (omega (arith, h.1))
-in_files base seen (number ∷ numbers) one h = elim (Contains-append_cases (session_file base seen number) (files_of base seen numbers) one h) [
-  | inl here ↦
-      let own = in_file number (file base (session number) seen) one here in
-      subst (λ (n : ℕ). file base (session n) seen ≡ Some one.text) own.0 own.1
-  | inr later ↦ in_files base seen numbers one later
-]
 
 -- ---- the sessions that run, by their numbers
 
