@@ -1,7 +1,7 @@
 #!/usr/bin/env python3
 """Writes the file `stdout` of this crate: what docs/FORMATS.md says of each text in data/cases.
 
-The rules stand here once more, as patterns of whole lines. Run it in the crate's folder.
+The rules are written here a second time, as patterns of whole lines. Run it in the crate's folder.
 """
 import re
 
@@ -28,7 +28,7 @@ def is_set(line):
 
 
 def may_stand(number, line):
-    """Whether this line, counted from 1, may stand there after others that may."""
+    """Returns whether the line may have this number, counted from 1, after lines that may have theirs."""
     if number == 1:
         return is_head(line)
     is_halt = bool(HALT.fullmatch(line))

@@ -36,7 +36,7 @@ def is_text(word):
 
 
 def command(words):
-    """The program's name and the interval of `run PROG EVERY`, or None."""
+    """Returns the program's name and the interval of `run PROG EVERY`, or None."""
     if len(words) != 3 or words[0] != "run":
         return None
     _, name, every = words
@@ -52,8 +52,8 @@ QUOTED = r'"((?:[^"\\]|\\["\\])*)"'
 
 
 def read(text):
-    """The function's name, url, script, line and column, and its body as (line, is halt); or the
-    number of the first line at fault."""
+    """Returns the function's name, url, script, line and column, and its body as (line, is halt); or
+    the number of the first line at fault."""
     lines = text.split("\n")
     last = lines.pop()
     head = re.fullmatch(rf"func main {QUOTED} {QUOTED} {NUMBER} {NUMBER} {NUMBER}", lines[0]) if lines else None
@@ -83,7 +83,7 @@ def read(text):
 
 
 def profile(head, body, every):
-    """The file of the one session, the entries between start and end, and the step of the end."""
+    """Returns the file of the one session, the steps of its samples, and the step of the end."""
     end = next(step for step, (_, halts) in enumerate(body, 1) if halts)
     steps = list(range(every, end, every))
     hits = {}
@@ -112,7 +112,7 @@ def hash_of(text):
 
 
 def delivered(case, text):
-    """What is printed of the part, and whether it was taken, aborted or failed."""
+    """Returns what is printed of the part, and whether it was taken, aborted or failed."""
     size = int(case["chunk"])
     taken, shown = "", ""
     for number, at in enumerate(range(0, len(text), size), 1):

@@ -1,4 +1,4 @@
--- Counts over lists in which nothing is twice.
+-- Counts over lists in which nothing occurs twice.
 use Rattle.std.proofs.Common.{◌≡◌, ◌+◌, ◌≤◌, List, [], ◌∷◌, refl, ap, ◌∙◌, arith}
 use Rattle.std.proofs.lemmas.List.Sums.{sum_by-cons}
 use Rattle.std.specs.Prelude.{Bool, true, false, cond, ◌||◌, count_by}
@@ -18,7 +18,7 @@ abbrev pub IsRising : {X : Type 0} → (X → X → Bool) → List X → Type 0
 IsRising before [] = Unit {0}
 IsRising before (x ∷ xs) = AllByRecursion (λ y. before x y ≡ true) xs × IsRising before xs
 
--- no element after one that passes does
+-- of an element and one that comes after it, at most one passes
 abbrev pub PassesOnce : {X : Type 0} → (X → X → Bool) → (X → Bool) → Type 0
 PassesOnce {X} before p = (x y : X) → before x y ≡ true → p x ≡ true → p y ≡ false
 

@@ -18,7 +18,7 @@ disjoint_if : (range : Range) (others : List Range) (b : Bool) → AllByRecursio
 disjoint_if range others true apart disjoint = (apart, disjoint)
 disjoint_if range others false apart disjoint = disjoint
 
--- fewer ranges
+-- the ranges that pass a test
 disjoint_filtered : (test : Range → Bool) (ranges : List Range) → AreDisjoint ranges → AreDisjoint (filter test ranges)
 disjoint_filtered test [] disjoint = tt
 disjoint_filtered test (range ∷ ranges) disjoint =
@@ -69,7 +69,7 @@ within_one : (address start size other_start other_size : ℕ) → (nat_lt start
     → (nat_le start address && nat_lt address (start + size)) ≡ true → (nat_le other_start address && nat_lt address (other_start + other_size)) ≡ false
 within_one address start size other_start other_size apart inside = grind (arith, nat_tests)
 
--- an address of a range is in none that it does not meet
+-- an address in one range is in no range that does not meet it
 held_once : (address : ℕ) (one other : Range) → not (meets one other) ≡ true → holds address one ≡ true → holds address other ≡ false
 held_once address one other apart inside = within_one address one.start one.size other.start other.size (not-true (meets one other) apart) inside
 

@@ -22,7 +22,7 @@ is_some-option_map : {X Y : Type 0} (f : X → Y) (o : Option X) → is_some o �
 is_some-option_map f None e = absurd (cc)
 is_some-option_map f (Some x) e = refl
 
--- a session that ends has a recording, where each is stopped while it runs
+-- a session that ends has a recording, where each session is only stopped while it runs
 recorded_behind : (number : ℕ) (running : List ℕ) (begun : Option Begun) (seen : List Seen)
     → AreStoppedWhileRunning running seen → (Has running number → is_some begun ≡ true) → Has (ends_behind running seen) number
     → is_some (recording_behind number begun seen) ≡ true
@@ -77,7 +77,7 @@ one_is_its_own base number seen None shown is h = absurd h
 one_is_its_own base number seen (Some text) shown is (inl same) = subst (λ (f : SessionFile). file base (session f.session) seen ≡ Some f.text) same is
 one_is_its_own base number seen (Some text) shown is (inr h) = absurd h
 
--- each of the files of some sessions is its session's
+-- each of the files of some sessions is that of its session
 pub of_its_session : (base : ℕ) (seen : List Seen) (numbers : List ℕ) (shown : SessionFile) → Contains (files_of base seen numbers) shown → file base (session shown.session) seen ≡ Some shown.text
 of_its_session base seen numbers shown has =
     flat_map_each (session_file base seen) (λ (f : SessionFile). file base (session f.session) seen ≡ Some f.text) numbers

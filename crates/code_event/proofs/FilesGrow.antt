@@ -36,7 +36,7 @@ has_close number (stopped s time reasons ∷ seen) = (s.0 == number) || has_clos
 has_close number (finished time files reasons ∷ seen) = true
 has_close number (ticked tick ∷ seen) = has_close number seen
 
--- what is seen after that does not change the recording
+-- what is seen after the end does not change the recording
 pub recording-closed : (number : ℕ) (begun : Option Begun) (seen more : List Seen) → has_close number seen ≡ true
     → recording_behind number begun (seen ++ more) ≡ recording_behind number begun seen
 recording-closed number begun [] more closed = absurd (cc closed)
@@ -52,7 +52,7 @@ recording-closed number begun (stopped s time reasons ∷ seen) more closed =
 recording-closed number begun (finished time files reasons ∷ seen) more closed = refl
 recording-closed number begun (ticked tick ∷ seen) more closed = recording-closed number (option_map (with_tick number tick) begun) seen more closed
 
--- one recording makes one file
+-- equal recordings make equal files
 pub same_file : (base : ℕ) (number : SessionId) (seen other : List Seen) → recording number.0 seen ≡ recording number.0 other → file base number seen ≡ file base number other
 same_file base number seen other same = ap (λ (r : Option Recording). option_map file_text (option_map (λ x. profile_of number x (kept base x.begun)) r)) same
 

@@ -18,12 +18,12 @@ use Rattle.code_event.specs.declared.event.CodeEvent.TheVariants.{Create, Move, 
 use Rattle.code_event.specs.declared.tick.Item.{Item}
 use Rattle.code_event.specs.declared.tick.Item.TheVariants as item
 
--- one session more runs
+-- one more session runs
 within_put : (number : ℕ) (xs ys : List ℕ) → IsWithin xs ys → IsWithin (number ∷ xs) (insert_sorted nat_cmp number ys)
 within_put number xs ys within n (inl same) = subst (Has (insert_sorted nat_cmp number ys)) same (put_has nat_cmp exact_unsigned number ys)
 within_put number xs ys within n (inr h) = put_keeps nat_cmp number n ys (within n h)
 
--- an event stops no session but one that runs, if what follows does so
+-- an event stops only a session that runs, where what follows stops only such sessions too
 event_stops : (course : ListSoFar) (running : List ℕ) (reasons : DeoptReasons) (event : CodeEvent) (items : List Item) (seen : List Seen) (Then : ListSoFar → Type 0)
     → IsWithin course.running running → MayCome course event items Then
     → ((next : ListSoFar) (still : List ℕ) → IsWithin next.running still → Then next → AreStoppedWhileRunning still seen)
@@ -43,7 +43,7 @@ event_stops course running reasons (Stop session time) items seen Then within ma
 )
 event_stops course running reasons (Finish time files) items seen Then within may rest = tt
 
--- the sessions that run are among those that run by the legal walk
+-- the sessions that run are among those that run in the definition of legal lists
 legal_stops : (ranges : List Range) (reasons : DeoptReasons) (course : ListSoFar) (running : List ℕ) (items : List Item)
     → IsWithin course.running running → IsLegalAfter course items → AreStoppedWhileRunning running (seen_behind ranges reasons items)
 legal_stops ranges reasons course running [] within legal = tt

@@ -7,13 +7,13 @@ use Rattle.prof_base.proofs.Ordered.{Has}
 abbrev pub IsWithin : {X : Type 0} → List X → List X → Type 0
 IsWithin {X} xs ys = (x : X) → Has xs x → Has ys x
 
--- what is left of one element more by a test was there
+-- where a test is applied to a list with one more element, what it leaves was in that list
 has_kept : {X : Type 0} (x y : X) (b : Bool) (xs ys : List X) → Has (cond b (x ∷ xs) xs) y → (Has xs y → Has ys y) → Has (x ∷ ys) y
 has_kept x y true xs ys (inl same) old = inl same
 has_kept x y true xs ys (inr h) old = inr (old h)
 has_kept x y false xs ys h old = inr (old h)
 
--- what passes was there
+-- what passes a test was in the list
 pub has_filtered : {X : Type 0} (test : X → Bool) (xs : List X) (y : X) → Has (filter test xs) y → Has xs y
 has_filtered test [] y h = h
 has_filtered test (x ∷ xs) y h = has_kept x y (test x) (filter test xs) xs h (has_filtered test xs y)
@@ -23,7 +23,7 @@ passed_kept test x y true xs is (inl same) old = ap test (sym same) ∙ is
 passed_kept test x y true xs is (inr h) old = old h
 passed_kept test x y false xs is h old = old h
 
--- what is left passes
+-- what a test leaves passes it
 pub filtered_passes : {X : Type 0} (test : X → Bool) (xs : List X) (y : X) → Has (filter test xs) y → test y ≡ true
 filtered_passes test [] y h = absurd h
 filtered_passes test (x ∷ xs) y h = passed_kept test x y (test x) (filter test xs) refl h (filtered_passes test xs y)
@@ -32,7 +32,7 @@ has_still : {X : Type 0} (x y : X) (b : Bool) (xs : List X) → Has xs y → Has
 has_still x y true xs h = inr h
 has_still x y false xs h = h
 
--- what was there and passes is left
+-- what was in the list and passes is left
 pub has_passing : {X : Type 0} (test : X → Bool) (xs : List X) (y : X) → Has xs y → test y ≡ true → Has (filter test xs) y
 has_passing test [] y h passes = absurd h
 has_passing test (x ∷ xs) y (inl same) passes = subst (λ (b : Bool). Has (cond b (x ∷ filter test xs) (filter test xs)) y) (sym (ap test same ∙ passes)) (inl same)
@@ -50,7 +50,7 @@ has_either [] ys x h = inr h
 has_either (y ∷ xs) ys x (inl same) = inl (inl same)
 has_either (y ∷ xs) ys x (inr h) = elim (has_either xs ys x h) [ inl one ↦ inl (inr one) | inr other ↦ inr other ]
 
--- what a list from each element has is from one of them
+-- where lists are made from each element, each of their elements is in the list from one of these
 pub flat_map_each : {X Y : Type 0} (f : X → List Y) (P : Y → Type 0) (xs : List X) → ((x : X) (y : Y) → Has (f x) y → P y) → (y : Y) → Has (flat_map f xs) y → P y
 flat_map_each f P [] each y h = absurd h
 flat_map_each f P (x ∷ xs) each y h = elim (has_either (f x) (flat_map f xs) y h) [ inl here ↦ each x y here | inr later ↦ flat_map_each f P xs each y later ]

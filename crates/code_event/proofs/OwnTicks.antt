@@ -13,7 +13,7 @@ passed_by : (session : ℕ) (tick : ResolvedTick) (begun : Option Begun) → is_
 passed_by session tick None other = refl
 passed_by session tick (Some begun) other = ap (λ b. Some (cond b (record begun { ticks = begun.ticks ++ tick ∷ [] }) begun)) other
 
--- one tick more, by whether it is for the session
+-- one more tick, by whether it is for the session
 own_tick : (session : ℕ) (tick : ResolvedTick) (seen : List Seen) (begun : Option Begun) (b : Bool) → is_for session tick.only ≡ b
     → ((so_far : Option Begun) → recording_behind session so_far (filter (concerns session) seen) ≡ recording_behind session so_far seen)
     → recording_behind session begun (cond b (ticked tick ∷ filter (concerns session) seen) (filter (concerns session) seen)) ≡ recording_behind session (option_map (with_tick session tick) begun) seen

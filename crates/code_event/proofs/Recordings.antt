@@ -1,4 +1,4 @@
--- Where a recording stands in what is seen: both ways between the recording by what is seen and its parts.
+-- Where a recording is found in what is seen: from its parts to the recording, and back.
 use Rattle.std.proofs.Common.{◌≡◌, ◌⊎◌, ℕ, List, [], ◌∷◌, ◌++◌, refl, ap, ap₂, sym, ◌∙◌, subst, inl, inr, append_assoc, append-nil, eq-eqb, eqb-true, true≢false}
 use Rattle.std.proofs.lemmas.Bool.{cond-true, cond-false, cond_both}
 use Rattle.std.specs.Prelude.{Bool, true, false, cond, Option, Some, None, option_map, ◌==◌}
@@ -59,7 +59,7 @@ recorded_between number begun (finished time files reasons ∷ between) rest une
 recorded_between number begun (ticked tick ∷ between) rest unended unstarted =
     recorded_between number (with_tick number tick begun) between rest unended.1 unstarted.1 ∙ ap (λ b. recording_behind number (Some b) rest) (ticks_further number tick begun between)
 
--- before a start it does not matter what has begun, where nothing ends the session
+-- before a start it does not matter what had begun, where nothing ends the session
 recorded_from_start : (number : ℕ) (begun : Option Begun) (before : List Seen) (options : Options) (time : ℕ) (rest : List Seen)
     → AllByRecursion (λ other. closes number other ≡ false) before
     → recording_behind number begun (before ++ started (session number) options time ∷ rest) ≡ recording_behind number (Some (fresh options time)) rest
@@ -98,12 +98,12 @@ record IsEndedIn (seen : List Seen) (number : ℕ) (begun : Begun) (told : Recor
   pub last_start : AllByRecursion (λ other. starts number other ≡ false) between
   pub begun_then : told.begun ≡ with_ticks begun (ticks_for number between)
 
--- it stands in what is seen from its start on, or from what has come of the session before
+-- the recording is found in what is seen from a start on, or it goes on from what had begun before
 abbrev StandsBehind : ℕ → Option Begun → List Seen → Recording → Type 0
 StandsBehind number None seen told = IsRecordedIn seen number told
 StandsBehind number (Some begun) seen told = IsRecordedIn seen number told ⊎ IsEndedIn seen number begun told
 
--- one more seen before, which does not end the session
+-- the same after one more mark or tick that does not end the session
 recorded_later : (number : ℕ) (one : Seen) (seen : List Seen) (told : Recording) → closes number one ≡ false → IsRecordedIn seen number told → IsRecordedIn (one ∷ seen) number told
 recorded_later number one seen told unended is = record {
   before = one ∷ is.before;
@@ -117,7 +117,7 @@ recorded_later number one seen told unended is = record {
   ticks = is.ticks;
 }
 
--- the same where it does not start it either
+-- the same where that does not start the session either
 ended_later : (number : ℕ) (one : Seen) (seen : List Seen) (begun then : Begun) (told : Recording)
     → closes number one ≡ false → starts number one ≡ false
     → ((between : List Seen) → with_ticks then (ticks_for number between) ≡ with_ticks begun (ticks_for number (one ∷ between)))
@@ -148,12 +148,12 @@ tick_later number tick seen (Some begun) told (inl is) = inl (recorded_later num
 tick_later number tick seen (Some begun) told (inr is) =
     inr (ended_later number (ticked tick) seen begun (with_tick number tick begun) told refl refl (ticks_further number tick begun) is)
 
--- where it stands from a start on, whatever was before
+-- where the recording is found from a start on, whatever had begun before
 recorded_stands : (number : ℕ) (begun : Option Begun) (seen : List Seen) (told : Recording) → IsRecordedIn seen number told → StandsBehind number begun seen told
 recorded_stands number None seen told is = is
 recorded_stands number (Some begun) seen told is = inl is
 
--- what ends with no further start after this one begins with it
+-- a session that ends with no further start after this one begins with it
 recorded_with_start : (number : ℕ) (s : SessionId) (options : Options) (time : ℕ) (seen : List Seen) (told : Recording) → s.0 ≡ number
     → StandsBehind number (Some (fresh options time)) seen told → IsRecordedIn (started s options time ∷ seen) number told
 recorded_with_start number s options time seen told same (inl is) = recorded_later number (started s options time) seen told refl is

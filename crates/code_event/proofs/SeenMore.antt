@@ -9,7 +9,7 @@ use Rattle.code_event.specs.declared.code_map.Range.{Range}
 use Rattle.code_event.specs.declared.tick.Item.{Item}
 use Rattle.code_event.specs.declared.tick.Item.TheVariants as item
 
--- items after others are seen by the ranges and the reasons that the events among those have left
+-- items after others are seen with the ranges and the reasons that the events among the others have left
 pub seen_more : (ranges : List Range) (reasons : DeoptReasons) (items more : List Item)
     → seen_behind ranges reasons (items ++ more)
     ≡ seen_behind ranges reasons items ++ seen_behind (after_events ranges (events_of items)) (reasons_after ranges reasons (events_of items)) more

@@ -21,7 +21,7 @@ none_is_not_last : (early since : List Choice) (last : Choice) → is_counted_fr
 none_is_not_last early since last counted none =
     both_ways (is_counted_from last) (all_of_second (λ choice. is_counted_from choice ≡ false) early (last ∷ since) none).0 counted
 
--- The last choice that is counted from is one, and so are those since.
+-- There is only one last choice that is counted from, and only one list of choices since.
 one_last : (early other_early since other_since : List Choice) (last other_last : Choice) → early ++ last ∷ since ≡ other_early ++ other_last ∷ other_since
     → is_counted_from last ≡ true → is_counted_from other_last ≡ true → NoneCounted since → NoneCounted other_since → since ≡ other_since
 one_last [] [] since other_since last other_last same counted other_counted none other_none = cc
@@ -77,13 +77,13 @@ tells_pushed None before choice uncounted is = all_pushed (λ c. is_counted_from
 tells_pushed (Some ticks) before choice uncounted is =
     counts_pushed ticks (ticks ++ choice.tick ∷ []) before choice uncounted (sum_by_push (λ tick. tick.interval) ticks choice.tick) is
 
--- one of interval 0 need not be there
+-- a choice of interval 0 may also be left out of them
 tells_same : (since : Option (List ResolvedTick)) (before : List Choice) (choice : Choice) → is_counted_from choice ≡ false
     → choice.tick.interval ≡ 0 → Tells since before → Tells since (before ++ choice ∷ [])
 tells_same None before choice uncounted zero is = all_pushed (λ c. is_counted_from c ≡ false) before choice is uncounted
 tells_same (Some ticks) before choice uncounted zero is = counts_pushed ticks ticks before choice uncounted (omega (arith, zero)) is
 
--- from one that is counted from on there are none yet
+-- after a choice that is counted from there are none yet
 tells_none_since : (before : List Choice) (choice : Choice) → is_counted_from choice ≡ true → Tells (Some []) (before ++ choice ∷ [])
 tells_none_since before choice counted = record { early = before; last = choice; since = []; parts = refl; is_last = counted; none_since = tt; sum = refl }
 
@@ -118,7 +118,7 @@ wanted_is_to_be_kept rounded since before tick true is_zero is wanted = inl (eqb
 wanted_is_to_be_kept rounded None before tick false some is wanted = inr (inl is)
 wanted_is_to_be_kept rounded (Some ticks) before tick false some is wanted = inr (inr (adds_up rounded ticks before tick is wanted))
 
--- where intervals are counted from another choice, it is that one
+-- where the intervals add up, they are counted from the same last choice, and the tick is due
 due_if_adds_up : (rounded : ℕ) (since : Option (List ResolvedTick)) (before : List Choice) (tick : ResolvedTick) → Tells since before
     → AddsUp rounded before tick → is_due rounded tick.interval since ≡ true
 due_if_adds_up rounded None before tick is adds = refl

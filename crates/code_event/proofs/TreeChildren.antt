@@ -19,7 +19,7 @@ use Rattle.code_event.proofs.TreePaths.{parent_is_prefix}
 use Rattle.code_event.proofs.TreeNodes.{root_first}
 use Rattle.code_event.proofs.TreeParents.{one_parent}
 
--- what equal functions give
+-- functions with equal values
 flat_map_same : {A B : Type 0} (f g : A → List B) (xs : List A) → ((x : A) → f x ≡ g x) → flat_map f xs ≡ flat_map g xs
 flat_map_same f g xs h = λ i. flat_map (λ x. h x i) xs
 
@@ -37,7 +37,7 @@ module _ {K : Type 0} where
   kept_first t x fs xs false true e same h = absurd (true≢false (sym (h refl)))
   kept_first t x fs xs false false e same h = same
 
-  -- a test that lets through less finds the same in what another left
+  -- a test that is stricter than another finds the same in what the other has left
   filter_kept : (s t : K → Bool) (xs : List K) → ((x : K) → Has xs x → t x ≡ true → s x ≡ true) → filter t (filter s xs) ≡ filter t xs
   filter_kept s t [] h = refl
   filter_kept s t (x ∷ xs) h = kept_first t x (filter s xs) xs (s x) (t x) refl (filter_kept s t xs (λ y has. h y (inr has))) (h x (inl refl))
@@ -55,7 +55,7 @@ module _ {K : Type 0} where
     differs : (p q : K) → R p q ≡ Less → p ≡ q → ⊥
     differs p q less e = true≢false (ap is_lt (sym less ∙ ap (λ z. R p z) (sym e) ∙ tied_itself o p))
 
-    -- what is below just one of some, taken together
+    -- elements each of which is below exactly one of some keys, taken together key by key
     parted : (ps : List K) → Rises R ps → (xs : List K) → ((x : K) → Has xs x → (p : K) × Has ps p × (below p x ≡ true)) → IsPermutation (flat_map (λ p. filter (below p) xs) ps) xs
     parted [] rises [] h = IsPermutation-refl []
     parted [] rises (x ∷ xs) h = absurd (h x (inl refl)).1

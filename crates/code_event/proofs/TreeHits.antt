@@ -1,4 +1,4 @@
--- The hits of a tree: each is of just one node, and at just one line.
+-- The hits of a tree: each is of exactly one node, and at exactly one line.
 use Rattle.std.proofs.Common.{◌≡◌, ℕ, ◌+◌, List, [], ◌∷◌, map, cond, inl, inr, ◌&&◌, Bool, true, false, eqb, ltb, ltb-false, Ordering, Less, Equal, Greater, is_eq, refl, sym, ap, ap₂, ◌∙◌, subst, arith}
 use Rattle.std.specs.Prelude.{count_by}
 use Rattle.std.specs.List.{sum_by}

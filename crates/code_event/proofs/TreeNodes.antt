@@ -1,4 +1,4 @@
--- Which nodes a tree has: just the prefixes of the ticks' paths, and the root before all.
+-- Which nodes a tree has: exactly the prefixes of the ticks' paths, of which the root is the first.
 use Rattle.std.proofs.Common.{◌≡◌, ◌↔◌, ◌≤◌, List, [], ◌∷◌, length, map, ◌⊎◌, inl, inr, refl, sym, subst, arith, append-nil, Some}
 use Rattle.std.specs.List.{Contains, slice_get, All, AllByRecursion}
 use Rattle.std.proofs.lemmas.List.Elements.{All-from_recursion}

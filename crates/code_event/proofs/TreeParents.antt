@@ -1,4 +1,4 @@
--- The nodes right above others: they come first, and each node but the root has just one.
+-- The nodes directly above others: they come first, and each node but the root has exactly one.
 use Rattle.std.proofs.Common.{◌≡◌, ◌≢◌, ℕ, suc, ◌-◌, ◌<◌, ◌≤◌, List, [], ◌∷◌, ◌++◌, length, take, drop, inl, inr, ◌&&◌, true, eq-eqb, is_eq, refl, sym, ap, ap₂, ◌∙◌, arith, append_assoc, length-take, take-append-drop}
 use Rattle.std.specs.List.{Contains}
 use Rattle.std.proofs.lemmas.Cmp.{tied_itself}

@@ -1,4 +1,4 @@
--- Paths: those that the order does not distinguish are equal; what their prefixes are; and where one is right above another.
+-- Paths: those that the order does not distinguish are equal; what their prefixes are; and where one is directly above another.
 use Rattle.std.proofs.Common.{◌≡◌, suc, ◌-◌, List, [], ◌∷◌, ◌++◌, length, map, take, inl, inr, true, true≢false, eqb, eqb-true, Ordering, Less, Equal, Greater, is_lt, is_gt, is_eq, refl, sym, ap, ap₂, ◌∙◌, subst, arith}
 use Rattle.std.specs.Ordering.{ordering_then}
 use Rattle.std.specs.Cmp.{IsTotalOrder}
@@ -78,7 +78,7 @@ has_prefix (x ∷ part) rest = inr (map_has (λ prefix. x ∷ prefix) (prefixes 
 pub has_from_is_prefix : {A : Type 0} (path part : List A) → IsPrefix part path → Has (prefixes path) part
 has_from_is_prefix path part h = subst (λ p. Has (prefixes p) part) (sym h.1) (has_prefix part h.0)
 
--- ---- right above
+-- ---- directly above
 
 shorter_first : {K : Type 0} (R : K → K → Ordering) → IsTotalOrder R → (parent node : List K) → length node ≡ suc (length parent) → slice_cmp R (take (length parent) node) parent ≡ Equal → slice_cmp R parent node ≡ Less
 shorter_first R o [] [] long e = absurd (omega arith)

@@ -17,15 +17,15 @@ range_of start layout = record { start = start; size = SLOT_SIZE * length layout
 abbrev pub meets : Range → Range → Bool
 meets one other = nat_lt one.start (other.start + other.size) && nat_lt other.start (one.start + one.size)
 
--- a new range takes the place of each that it meets
+-- a new range replaces each range that it meets
 abbrev pub with_range : List Range → Range → List Range
 with_range ranges new = filter (λ r. not (meets r new)) ranges ++ new ∷ []
 
--- the range that starts there
+-- the range that starts at this address
 abbrev pub range_at : List Range → ℕ → Option Range
 range_at ranges start = find (λ r. r.start == start) ranges
 
--- the ranges but the one that starts there
+-- the ranges except the one that starts at this address
 abbrev pub without_range : List Range → ℕ → List Range
 without_range ranges start = filter (λ r. not (r.start == start)) ranges
 

@@ -20,7 +20,7 @@ no_reasons entry = None
 abbrev pub with_reason : DeoptReasons → List ℕ → Entry → DeoptReasons
 with_reason reasons reason entry = λ other. if same_entry other entry then Some reason else reasons other
 
--- the entry of the range that starts there has this reason from now on
+-- the entry of the range that starts at this address has this reason from now on
 abbrev pub with_reason_at : List Range → DeoptReasons → ℕ → List ℕ → DeoptReasons
 with_reason_at ranges reasons start reason = option_map_or (with_reason reasons reason) (option_and_then range_entry (range_at ranges start)) reasons
 
@@ -40,7 +40,7 @@ abbrev pub reasons_after : List Range → DeoptReasons → List CodeEvent → De
 reasons_after ranges reasons [] = reasons
 reasons_after ranges reasons (event ∷ events) = reasons_after (after_event ranges event) (reasons_after_event ranges reasons event) events
 
--- the reasons that a list gives, of which the first of an entry counts
+-- the reasons that a list gives: the first of an entry counts
 abbrev pub reasons_in : List DeoptReason → DeoptReasons
 reasons_in [] = no_reasons
 reasons_in (reason ∷ reasons) = with_reason (reasons_in reasons) reason.reason reason.entry

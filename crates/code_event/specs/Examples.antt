@@ -106,7 +106,7 @@ two_sessions =
     ∷ []
     )
 
--- a node with no reason
+-- a node with no deopt reason
 abbrev pub node : Entry → ℕ → List ℕ → List LineTicks → FinNode
 node entry hits children lines = record { entry = entry; reason = None; hits = hits; children = children; lines = lines }
 

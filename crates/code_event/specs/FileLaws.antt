@@ -15,7 +15,7 @@ use Rattle.code_event.specs.declared.tick.Item.TheVariants as item
 abbrev pub sessions_of : List SessionFile → List ℕ
 sessions_of files = map (λ file. file.session) files
 
--- each session that is stopped runs then, where these ran before
+-- each session is only stopped while it runs, where these run at first
 abbrev pub AreStoppedWhileRunning : List ℕ → List Seen → Type 0
 AreStoppedWhileRunning running [] = Unit {0}
 AreStoppedWhileRunning running (started s options time ∷ seen) = AreStoppedWhileRunning (insert_sorted nat_cmp s.0 running) seen
@@ -23,25 +23,25 @@ AreStoppedWhileRunning running (stopped s time reasons ∷ seen) = Contains runn
 AreStoppedWhileRunning running (finished time files reasons ∷ seen) = Unit {0}
 AreStoppedWhileRunning running (ticked tick ∷ seen) = AreStoppedWhileRunning running seen
 
--- where none is stopped that does not run, each session that ends has its file, in the order in which they end, and no other has one
+-- where sessions are only stopped while they run, each session that ends has its file, in the order in which they end, and no other session has one
 abbrev pub StoppedSessionsHaveFiles : Type 0
 StoppedSessionsHaveFiles = (base : ℕ) (seen : List Seen) → AreStoppedWhileRunning [] seen → sessions_of (files base seen) ≡ ends seen
 
--- in a legal list each session that ends has its file, in the order in which they end, and no other has one
+-- in a legal list each session that ends has its file, in the order in which they end, and no other session has one
 abbrev pub EachEndHasAFile : Type 0
 EachEndHasAFile = (base : ℕ) (items : List Item) → IsLegalItems items → sessions_of (item_files base items) ≡ ends (seen_items items)
 
--- each of the files is its session's
+-- each file is that of its session
 abbrev pub FilesAreTheirSessions : Type 0
 FilesAreTheirSessions =
     (base : ℕ) (items : List Item) (file : SessionFile) → Contains (item_files base items) file → item_file base items (session file.session) ≡ Some file.text
 
--- it is no finish
+-- it is not a finish
 abbrev pub IsOpen : Seen → Type 0
 IsOpen (finished time files reasons) = ⊥
 IsOpen other = Unit {0}
 
--- the sessions that run after what is seen, rising, where these ran before
+-- the sessions that run after what is seen, in rising order, where these run at first
 abbrev pub running_on : List ℕ → List Seen → List ℕ
 running_on running [] = running
 running_on running (started s options time ∷ seen) = running_on (insert_sorted nat_cmp s.0 running) seen
@@ -49,18 +49,18 @@ running_on running (stopped s time reasons ∷ seen) = running_on (without s.0 r
 running_on running (finished time files reasons ∷ seen) = running_on running seen
 running_on running (ticked tick ∷ seen) = running_on running seen
 
--- what is seen further leaves the files that there are, and adds those of the sessions that it ends
+-- as long as no finish has been seen, whatever is seen next leaves the files as they are and adds those of the sessions that it ends
 abbrev pub FilesGrow : Type 0
 FilesGrow =
     (base : ℕ) (seen more : List Seen) → AllByRecursion IsOpen seen
     → files base (seen ++ more) ≡ files base seen ++ files_of base (seen ++ more) (ends_behind (running_on [] seen) more)
 
--- an event that is no finish
+-- an event that is not a finish
 abbrev pub IsOpenEvent : CodeEvent → Type 0
 IsOpenEvent (Finish time files) = ⊥
 IsOpenEvent other = Unit {0}
 
--- an item that is no finish
+-- an item that is not a finish
 abbrev pub IsOpenItem : Item → Type 0
 IsOpenItem (item.Event e) = IsOpenEvent e.event
 IsOpenItem (item.Tick t) = Unit {0}
@@ -76,11 +76,11 @@ abbrev pub ended_by : List ℕ → Item → List ℕ
 ended_by running (item.Event e) = ended_by_event running e.event
 ended_by running (item.Tick t) = []
 
--- the sessions that run after these items, rising
+-- the sessions that run after these items, in rising order
 abbrev pub running_after : List Item → List ℕ
 running_after items = running_on [] (seen_items items)
 
--- each item adds the files of just the sessions that it ends
+-- an item that follows no finish adds the files of exactly the sessions that it ends
 abbrev pub ItemsAddFiles : Type 0
 ItemsAddFiles =
     (base : ℕ) (items : List Item) (next : Item) → AllByRecursion IsOpenItem items

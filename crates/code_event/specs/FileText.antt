@@ -30,7 +30,7 @@ call_frame_text entry =
 abbrev pub line_text : LineTicks → List ℕ
 line_text line = codes "{\"line\":" ++ decimal line.line ++ codes ",\"ticks\":" ++ decimal line.ticks ++ codes "}"
 
--- the ids right below, where there are any
+-- the ids of the children, where there are any
 abbrev pub children_text : List ℕ → List ℕ
 children_text [] = []
 children_text (id ∷ ids) = codes ",\"children\":" ++ list_text (map decimal (id ∷ ids))

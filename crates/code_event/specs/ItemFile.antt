@@ -30,7 +30,7 @@ session_file base seen number = option_to_list (option_map (λ text. record { se
 abbrev pub files_of : ℕ → List Seen → List ℕ → List SessionFile
 files_of base seen numbers = flat_map (session_file base seen) numbers
 
--- the sessions in the order in which they end, by those that run, rising: each stop's, then those that a finish with files ends, by their numbers
+-- the sessions in the order in which they end, where these run at first, in rising order: each stopped one, then those that a finish with files ends, by their numbers
 abbrev pub ends_behind : List ℕ → List Seen → List ℕ
 ends_behind running [] = []
 ends_behind running (started s options time ∷ seen) = ends_behind (insert_sorted nat_cmp s.0 running) seen

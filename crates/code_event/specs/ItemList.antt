@@ -32,7 +32,7 @@ stamped_behind events ticks [] = []
 stamped_behind events ticks (item.Event e ∷ items) = item.Event (stamped_event events ticks e) ∷ stamped_behind (suc events) ticks items
 stamped_behind events ticks (item.Tick t ∷ items) = item.Tick (stamped_tick events ticks t) ∷ stamped_behind events (suc ticks) items
 
--- the items with their stamps: events and ticks are numbered from 1, each apart
+-- the items with their stamps: events and ticks are numbered separately, each from 1
 abbrev pub stamped : List Item → List Item
 stamped items = stamped_behind 0 0 items
 
@@ -46,17 +46,17 @@ IsStampedBehind events ticks (item.Tick t ∷ items) = (t.tick_number ≡ suc ti
 abbrev pub IsStamped : List Item → Type 0
 IsStamped items = IsStampedBehind 0 0 items
 
--- the numbers but this one
+-- the numbers except this one
 abbrev pub without : ℕ → List ℕ → List ℕ
 without n ns = filter (λ m. not (m == n)) ns
 
--- what has come: the latest time, the sessions that were started, and those that run
+-- what has happened so far: the latest time, the sessions that were started, and those that run
 pub record ListSoFar : Type 0 where
   pub time : ℕ
   pub started : List ℕ
   pub running : List ℕ
 
--- an event may come, and what may come after it
+-- an event may come next, and so may what comes after it
 abbrev pub MayCome : ListSoFar → CodeEvent → List Item → (ListSoFar → Type 0) → Type 0
 MayCome course (Create start layout) items Then = Then course
 MayCome course (Move from to) items Then = Then course
@@ -71,7 +71,7 @@ MayCome course (Stop session time) items Then =
     × Then (record { time = time; started = course.started; running = without session.0 course.running })
 MayCome course (Finish time files) items Then = (course.time ≤ time) × (items ≡ [])
 
--- the items may come after what has come
+-- the items may come after what has happened so far
 abbrev pub IsLegalAfter : ListSoFar → List Item → Type 0
 IsLegalAfter course [] = Unit {0}
 IsLegalAfter course (item.Event e ∷ items) = MayCome course e.event items (λ next. IsLegalAfter next items)

@@ -1,4 +1,4 @@
--- What holds of the definitions for all that may come.
+-- What holds of the definitions for all events and items.
 use Rattle.std.specs.Prelude.{◌≡◌, ◌≤◌, ℕ, List, [], ◌∷◌, Bool, true, false, Option, option_map, filter, count_by}
 use Rattle.std.specs.List.{AllByRecursion}
 use Rattle.code_event.specs.CodeMap.{meets, ranges}
@@ -12,7 +12,7 @@ use Rattle.code_event.specs.declared.code_map.Range.{Range}
 use Rattle.code_event.specs.declared.seen.ResolvedTick.{ResolvedTick}
 use Rattle.code_event.specs.declared.tick.Item.{Item}
 
--- no two of these ranges share an address: each meets none of those after it
+-- no two of these ranges share an address: none meets one that comes after it
 abbrev pub AreDisjoint : List Range → Type 0
 AreDisjoint [] = Unit {0}
 AreDisjoint (range ∷ others) = AllByRecursion (λ other. meets range other ≡ false) others × AreDisjoint others
@@ -21,7 +21,7 @@ AreDisjoint (range ∷ others) = AllByRecursion (λ other. meets range other ≡
 abbrev pub RangesAreDisjoint : Type 0
 RangesAreDisjoint = (events : List CodeEvent) → AreDisjoint (ranges events)
 
--- meeting goes both ways, so that ranges that are disjoint meet in no order
+-- meeting is mutual, so that of disjoint ranges none meets another, in either order
 abbrev pub MeetingIsMutual : Type 0
 MeetingIsMutual = (one other : Range) → meets one other ≡ meets other one
 
@@ -37,11 +37,11 @@ StampingGivesStamps = (items : List Item) → IsStamped (stamped items)
 abbrev pub StampingKeepsStamped : Type 0
 StampingKeepsStamped = (items : List Item) → IsStamped items → stamped items ≡ items
 
--- two stamped lists that agree but for their stamps are one
+-- two stamped lists that agree except in their stamps are equal
 abbrev pub StampedListsAreOne : Type 0
 StampedListsAreOne = (one other : List Item) → IsStamped one → IsStamped other → stamped one ≡ stamped other → one ≡ other
 
--- what is seen concerns a session: all but the ticks that are for another session alone
+-- what is seen concerns a session, unless it is a tick for another session alone
 abbrev pub concerns : ℕ → Seen → Bool
 concerns session (started s options time) = true
 concerns session (stopped s time reasons) = true

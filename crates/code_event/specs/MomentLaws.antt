@@ -1,4 +1,4 @@
--- By which ranges and reasons an item is seen: those of the events before it.
+-- The ranges and reasons with which an item is seen: those of the events before it.
 use Rattle.std.specs.Prelude.{◌≡◌, List, [], ◌∷◌, ◌++◌}
 use Rattle.code_event.specs.CodeMap.{ranges}
 use Rattle.code_event.specs.DeoptReasons.{DeoptReasons, reasons}
@@ -14,12 +14,12 @@ events_of [] = []
 events_of (item.Event e ∷ items) = e.event ∷ events_of items
 events_of (item.Tick t ∷ items) = events_of items
 
--- what is seen of one item: of an event its mark with these reasons, of a tick its frames over these ranges
+-- what is seen of one item: for an event its mark with these reasons, for a tick its frames over these ranges
 abbrev pub seen_of : List Range → DeoptReasons → Item → List Seen
 seen_of ranges reasons (item.Event e) = mark reasons e.event
 seen_of ranges reasons (item.Tick t) = ticked (resolved_tick ranges t) ∷ []
 
--- Each item is seen by the ranges and the reasons that the events before it have left.
+-- Each item is seen with the ranges and the reasons that the events before it have left.
 abbrev pub ItemsAreSeenByTheEventsBefore : Type 0
 ItemsAreSeenByTheEventsBefore =
     (items : List Item) (next : Item)

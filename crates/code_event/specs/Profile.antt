@@ -18,7 +18,7 @@ visit_of mode tick = record { path = path mode tick.frames; line = leaf_line tic
 abbrev pub visits_of : Mode → List ResolvedTick → List Visit
 visits_of mode ticks = map (visit_of mode) ticks
 
--- at most this many, from the first on, or all
+-- the first elements, at most this many, or all
 abbrev pub cut : {A : Type 0} → Option ℕ → List A → List A
 cut None xs = xs
 cut (Some most) xs = take most xs
@@ -27,7 +27,7 @@ cut (Some most) xs = take most xs
 abbrev pub samples : List Visit → List ℕ
 samples visits = map (λ visit. id_of (nodes visits) visit.path) visits
 
--- the difference of each time from the one before, of the first from this one
+-- the difference of each time from the one before it, and of the first from this one
 abbrev pub deltas : ℕ → List ℕ → List ℕ
 deltas before [] = []
 deltas before (time ∷ times) = (time - before) ∷ deltas time times

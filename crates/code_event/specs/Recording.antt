@@ -22,7 +22,7 @@ pub record Recording : Type 0 where
 abbrev pub recording_by : ListedRecording → Recording
 recording_by listed = record { begun = listed.begun; end = listed.end; reasons = reasons_in listed.reasons }
 
--- one tick more, where it is for the session
+-- one more tick, if it is for the session
 abbrev pub with_tick : ℕ → ResolvedTick → Begun → Begun
 with_tick session tick begun =
     if is_for session tick.only then record begun { ticks = begun.ticks ++ tick ∷ [] } else begun
@@ -30,7 +30,7 @@ with_tick session tick begun =
 abbrev pub ended : Option Begun → ℕ → DeoptReasons → Option Recording
 ended begun end reasons = option_map (λ b. record { begun = b; end = end; reasons = reasons }) begun
 
--- the session's recording, by what has come of it: from its last start to its first stop, or to a finish
+-- the session's recording, where this had begun before: from its last start to its first stop, or to a finish
 abbrev pub recording_behind : ℕ → Option Begun → List Seen → Option Recording
 recording_behind session begun [] = None
 recording_behind session begun (started s options time ∷ seen) =

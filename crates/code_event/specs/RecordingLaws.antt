@@ -8,18 +8,18 @@ use Rattle.code_event.specs.Seen.{Seen, started, stopped, finished, ticked}
 use Rattle.code_event.specs.Subsample.{kept_since}
 use Rattle.code_event.specs.declared.seen.ResolvedTick.{ResolvedTick}
 
--- it starts the session
+-- it is a start of the session
 abbrev pub starts : ℕ → Seen → Bool
 starts number (started s options time) = s.0 == number
 starts number other = false
 
--- it ends the session: a stop of it, or a finish
+-- it is an end of the session: a stop of it, or a finish
 abbrev pub closes : ℕ → Seen → Bool
 closes number (stopped s time reasons) = s.0 == number
 closes number (finished time files reasons) = true
 closes number other = false
 
--- it ends the session, at this time and with these reasons
+-- it is an end of the session, at this time and with these reasons
 abbrev pub ClosesWith : ℕ → ℕ → DeoptReasons → Seen → Type 0
 ClosesWith number end reasons (stopped s time given) = (s.0 ≡ number) × (time ≡ end) × (given ≡ reasons)
 ClosesWith number end reasons (finished time files given) = (time ≡ end) × (given ≡ reasons)
@@ -33,7 +33,7 @@ ticks_for number (started s options time ∷ seen) = ticks_for number seen
 ticks_for number (stopped s time reasons ∷ seen) = ticks_for number seen
 ticks_for number (finished time files reasons ∷ seen) = ticks_for number seen
 
--- The recording stands in what is seen: the first stop of the session, or a finish before any, ends it; the last start of the session before that begins it; its ticks are those between that are for the session.
+-- The recording is found in what is seen: the first stop of the session, or a finish before any stop, ends it; the last start of the session before that begins it; its ticks are those in between that are for the session.
 pub record IsRecordedIn (seen : List Seen) (number : ℕ) (recording : Recording) : Type 0 where
   pub before : List Seen
   pub between : List Seen
@@ -45,7 +45,7 @@ pub record IsRecordedIn (seen : List Seen) (number : ℕ) (recording : Recording
   pub last_start : AllByRecursion (λ other. starts number other ≡ false) between
   pub ticks : recording.begun.ticks ≡ ticks_for number between
 
--- a session has a recording just where one stands in what is seen, and it is that one
+-- a session has a recording exactly where one is found in what is seen, and it is that one
 abbrev pub RecordingsStandBetween : Type 0
 RecordingsStandBetween = (seen : List Seen) (number : ℕ) (told : Recording) → (recording number seen ≡ Some told) ↔ IsRecordedIn seen number told
 
@@ -58,7 +58,7 @@ pub record Choice : Type 0 where
 abbrev pub is_counted_from : Choice → Bool
 is_counted_from choice = choice.is_kept && nat_lt 0 choice.tick.interval
 
--- The intervals of the ticks after the last that was kept with an interval above 0, with this one's own, add up to at least so much.
+-- The intervals of the ticks after the last that was kept with an interval above 0, with this one's own, add up to at least the rounded interval.
 pub record AddsUp (rounded : ℕ) (before : List Choice) (tick : ResolvedTick) : Type 0 where
   pub early : List Choice
   pub last : Choice
@@ -73,7 +73,7 @@ abbrev pub IsToBeKept : ℕ → List Choice → ResolvedTick → Type 0
 IsToBeKept rounded before tick =
     (tick.interval ≡ 0) ⊎ AllByRecursion (λ choice. is_counted_from choice ≡ false) before ⊎ AddsUp rounded before tick
 
--- of these ticks, which follow those before, just those are kept that are to be
+-- of these ticks, which follow those before, exactly those are kept that are to be kept
 abbrev pub AreChosen : ℕ → List Choice → List Choice → Type 0
 AreChosen rounded before [] = Unit {0}
 AreChosen rounded before (choice ∷ choices) =
@@ -88,6 +88,6 @@ chosen (choice ∷ choices) = if choice.is_kept then choice.tick ∷ chosen choi
 abbrev pub SubsamplesAddUp : Type 0
 SubsamplesAddUp = (rounded : ℕ) (choices : List Choice) → AreChosen rounded [] choices → kept_since rounded None (map (λ choice. choice.tick) choices) ≡ chosen choices
 
--- whatever the ticks, it can be said of each whether it is to be kept
+-- whatever the ticks, each of them is to be kept or is not
 abbrev pub EachTickIsChosenOrNot : Type 0
 EachTickIsChosenOrNot = (rounded : ℕ) (ticks : List ResolvedTick) → (choices : List Choice) × (map (λ choice. choice.tick) choices ≡ ticks) × AreChosen rounded [] choices

@@ -38,7 +38,7 @@ slot_at address range = slice_get range.layout.slots ((address - range.start) / 
 abbrev pub range_frames : ℕ → Range → List ResolvedFrame
 range_frames address range = option_map_or (slot_frames range.layout) (slot_at address range) []
 
--- the functions at an address, youngest first; none where it is nobody's
+-- the functions at an address, youngest first; none where it is in no range
 abbrev pub frames_at : List Range → ℕ → List ResolvedFrame
 frames_at ranges address = option_map_or (range_frames address) (find (holds address) ranges) []
 
@@ -51,7 +51,7 @@ abbrev pub stack_frames : List Range → List ℕ → List ResolvedFrame
 stack_frames ranges [] = []
 stack_frames ranges (youngest ∷ callers) = frames_at ranges youngest ++ flat_map (caller_frames ranges) callers
 
--- an entry that is no function, as V8 names it
+-- an entry that is not a function, as V8 names it
 abbrev pub special : List ℕ → Entry
 special name = record { name = name; url = []; script = 0; line = 0; column = 0 }
 
@@ -59,7 +59,7 @@ special name = record { name = name; url = []; script = 0; line = 0; column = 0 
 abbrev pub special_frame : List ℕ → List ResolvedFrame
 special_frame name = record { entry = special name; line = 0 } ∷ []
 
--- these frames, or that of the program where there are none
+-- these frames, or the frame of the program where there are none
 abbrev pub or_program : List ResolvedFrame → List ResolvedFrame
 or_program [] = special_frame (codes "(program)")
 or_program (frame ∷ frames) = frame ∷ frames
@@ -75,7 +75,7 @@ frames_over ranges Gc addresses = special_frame (codes "(garbage collector)")
 abbrev pub tick_frames : List Range → Tick → List ResolvedFrame
 tick_frames ranges tick = frames_over ranges tick.state tick.frames
 
--- the path in which each step has the line of the frame before, the first this one
+-- the path in which each step has the line of the frame before it, and the first step this line
 abbrev pub caller_path : ℕ → List ResolvedFrame → List PathStep
 caller_path line [] = []
 caller_path line (frame ∷ frames) = record { entry = frame.entry; call_line = line } ∷ caller_path frame.line frames
@@ -88,7 +88,7 @@ abbrev pub path : Mode → List ResolvedFrame → List PathStep
 path Leaf frames = leaf_path frames
 path Caller frames = caller_path 0 frames
 
--- the last frame's line, 0 for none
+-- the line of the last frame, 0 where there is none
 abbrev pub leaf_line : List ResolvedFrame → ℕ
 leaf_line [] = 0
 leaf_line (frame ∷ []) = frame.line

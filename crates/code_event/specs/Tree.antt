@@ -36,7 +36,7 @@ is_before one other = is_lt (path_cmp one other)
 abbrev pub same_path : List PathStep → List PathStep → Bool
 same_path one other = is_eq (path_cmp one other)
 
--- all prefixes, the empty one and the whole path among them
+-- all prefixes, including the empty one and the whole path
 abbrev pub prefixes : {A : Type 0} → List A → List (List A)
 prefixes [] = [] ∷ []
 prefixes (x ∷ xs) = [] ∷ map (λ prefix. x ∷ prefix) (prefixes xs)
@@ -55,7 +55,7 @@ nodes (visit ∷ visits) = with_paths (prefixes visit.path) (nodes visits)
 abbrev pub id_of : List (List PathStep) → List PathStep → ℕ
 id_of nodes node = place path_cmp nodes node
 
--- a tick is a hit of a node: it counts, and has just that path
+-- a tick is a hit of a node: it counts, and has exactly that path
 abbrev pub hits_node : List PathStep → Visit → Bool
 hits_node node visit = visit.hit && same_path visit.path node
 
@@ -77,11 +77,11 @@ hit_lines (visit ∷ visits) node =
 abbrev pub line_ticks : List Visit → List PathStep → List LineTicks
 line_ticks visits node = map (λ line. record { line = line; ticks = hits_at visits node line }) (hit_lines visits node)
 
--- one node is right below another: it is one step longer
+-- one node is directly below another: it is one step longer
 abbrev pub is_below : List PathStep → List PathStep → Bool
 is_below parent node = length node == suc (length parent) && same_path (take (length parent) node) parent
 
--- the ids of the nodes right below, in order
+-- the ids of the nodes directly below, in order
 abbrev pub children : List (List PathStep) → List PathStep → List ℕ
 children nodes parent = map (id_of nodes) (filter (is_below parent) nodes)
 

@@ -10,7 +10,7 @@ use Rattle.code_event.specs.declared.visit.Visit.{Visit}
 abbrev pub BeginsSome : List PathStep → List Visit → Type 0
 BeginsSome node visits = (visit : Visit) × Contains visits visit × IsPrefix node visit.path
 
--- just one node is right above this one
+-- exactly one node is directly above this one
 pub record HasOneParent (nodes : List (List PathStep)) (node : List PathStep) : Type 0 where
   pub parent : List PathStep
   pub stands : Contains nodes parent

@@ -11,15 +11,15 @@ pub struct Entry {
     pub url: Text,
     /// The number of the script.
     pub script: u32,
-    /// The line of the script where the function begins. It is 0 for what is no function, as
-    /// `(root)`.
+    /// The line of the script where the function begins. It is 0 for an entry that is not a
+    /// function, such as `(root)`.
     pub line: u32,
-    /// The column of that line, or 0 in the same way.
+    /// The column of that line, or 0 in the same case.
     pub column: u32,
 }
 
 impl Entry {
-    /// An equal entry, on the allocators of its texts.
+    /// Makes an equal entry, on the allocators of its texts.
     pub fn copy(&self) -> Result<Entry, Memory>
         ensures { IfOk result (λ copy. copy ≡ self.now) }
     {

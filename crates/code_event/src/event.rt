@@ -11,21 +11,21 @@ pub const MAX_SESSIONS: usize = 100;
 /// Which line of its caller a node of the profile is for, after V8's line modes.
 #[derive(Clone, Copy, Debug, PartialEq, Eq)]
 pub enum Mode {
-    /// None: a function called from two lines of another is one node (`kLeafNodeLineNumbers`).
+    /// No line: a function called from two lines of another is one node (`kLeafNodeLineNumbers`).
     Leaf,
-    /// The line of the call: it is two (`kCallerLineNumbers`).
+    /// The line of the call: such a function is two nodes (`kCallerLineNumbers`).
     Caller,
 }
 
 /// What a recording is asked to do.
 #[derive(Clone, Copy, Debug, PartialEq, Eq)]
 pub struct Options {
-    /// The connection that asked, from 1 to 8, or 0.
+    /// The port that asked: from 1 to 8 for a connection, or 0 for the isolate itself.
     pub port: u8,
     /// The interval of its samples in microseconds, from 1 to [`prof_base::MAX_INTERVAL`].
     pub interval: u32,
     pub mode: Mode,
-    /// The greatest number of samples that it lists, or none: its nodes and hits go on past that.
+    /// The greatest number of samples that it lists, or none. Its nodes and hits go on past that.
     pub max_samples: Option<u32>,
     ghost low: { 1 ≤ interval },
     ghost high: { interval ≤ MAX_INTERVAL },
@@ -47,7 +47,7 @@ pub enum Answer {
     TooMany,
     /// The session was stopped.
     Stopped,
-    /// No such session runs, or it was started at another port.
+    /// No such session runs, or it was started from another port.
     NoSession,
     /// The isolate has ended.
     Ended,
@@ -105,7 +105,7 @@ pub enum CodeEvent {
         session: SessionId,
         time: Micros,
     },
-    /// The isolate has ended. Where `files`, the sessions that run are finished; else they are lost.
+    /// The isolate has ended. If `files`, the sessions that run are finished; else they are lost.
     Finish {
         time: Micros,
         files: bool,
@@ -123,7 +123,7 @@ pub struct EventRecord {
 }
 
 impl CodeEvent {
-    /// An equal event, on the allocators of what it copies.
+    /// Makes an equal event, on the allocators of what it copies.
     pub fn copy(&self) -> Result<CodeEvent, Memory>
         ensures { IfOk result (λ copy. copy ≡ self.now) }
     {

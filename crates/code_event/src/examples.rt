@@ -1,4 +1,5 @@
-//! The definitions, computed on worked examples. Each function does nothing: its contract is the example.
+//! The definitions, computed on worked examples. Each function does nothing: its contract is the
+//! example.
 ghost use Rattle.std.specs.Prelude.{◌≡◌, [], ◌∷◌, Some, codes};
 ghost use Rattle.code_event.specs.CodeMap.{ranges, range_of};
 ghost use Rattle.code_event.specs.Symbolizer.{frames_over, leaf_path, caller_path, leaf_line};
@@ -10,14 +11,14 @@ ghost use Rattle.code_event.specs.Examples.{overlap_fold, overlap_file, inlined,
 ghost use Rattle.code_event.specs.declared.event.CodeEvent.TheVariants as event;
 ghost use Rattle.code_event.specs.declared.tick.VmState.TheVariants as state;
 
-/// A moved code object is at its new place alone, also where that overlaps the old one.
+/// A moved code object is only at its new place, also where that overlaps the old one.
 pub fn moved_code_is_at_its_new_place()
     ensures overlapping { ranges (event.Create 4104 three_slots ∷ event.Move 4104 4096 ∷ []) ≡ range_of 4096 three_slots ∷ [] }
     ensures apart { ranges (event.Create 4112 three_slots ∷ event.Move 4112 4096 ∷ []) ≡ range_of 4096 three_slots ∷ [] }
 {}
 
-/// A slot of an inlined function stands for that function and for the one that it is inlined in, at
-/// the line of the call.
+/// A slot of an inlined function names that function, and the one that it is inlined in at the line
+/// of the call.
 pub fn an_inlined_slot_stands_for_two_functions()
     ensures frames { frames_over inlined state.Js (208 ∷ 204 ∷ []) ≡ frame (codes "f") 1 2 ∷ frame (codes "f") 1 3 ∷ frame (codes "g") 8 9 ∷ [] }
     ensures leaf { leaf_path (frames_over inlined state.Js (208 ∷ 204 ∷ [])) ≡ path_step (codes "f") 1 0 ∷ path_step (codes "f") 1 0 ∷ path_step (codes "g") 8 0 ∷ [] }
@@ -38,8 +39,8 @@ pub fn two_sessions_have_their_own_profiles()
     ensures second { finished_of 1000 (session 2) (seen_items two_sessions) ≡ Some second_of_two }
 {}
 
-/// A function's code is taken away by one that overlaps it, and its addresses are then nobody's. The
-/// file is this one, byte for byte.
+/// A function's code is taken away by one that overlaps it, and what is left of its addresses is
+/// then in no function's code. The file is this one, byte for byte.
 pub fn overlap_takes_a_function_away()
     ensures { item_file 1000 overlap_fold (session 1) ≡ Some overlap_file }
 {}

@@ -27,9 +27,9 @@ pub use tree::{
     nodes_begin_the_paths, parents_come_first, the_root_comes_first,
 };
 
-/// The limits that contracts and definitions cite by name: how many sessions run at once, how many
-/// addresses a stack has, how many units and slots a layout has, how many units are above one, each at
-/// most; and how many bytes a slot takes.
+/// States the limits that contracts and definitions cite by name: how many sessions run at once,
+/// how many addresses a stack has, how many units and slots a layout has, how many units are above
+/// one, each at most; and how many bytes a slot takes.
 pub fn limits()
     ensures sessions { MAX_SESSIONS ≡ 100 }
     ensures addresses { Frames.MAX_LEN ≡ 255 }

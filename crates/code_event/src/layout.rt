@@ -40,9 +40,9 @@ pub struct Slot {
     pub line: u32,
 }
 
-/// The layout of a code object: 1 to [`Layout::MAX_UNITS`] units and 1 to [`Layout::MAX_SLOTS`] slots,
-/// each list in order. Unit 0 alone has no parent, a unit's parent has a smaller number, no unit has
-/// more than [`Layout::MAX_ABOVE`] above it, and the unit of each slot is there.
+/// The layout of a code object: 1 to [`Layout::MAX_UNITS`] units and 1 to [`Layout::MAX_SLOTS`]
+/// slots, each list in order. Unit 0 alone has no parent, a unit's parent has a smaller number, no
+/// unit has more than [`Layout::MAX_ABOVE`] above it, and the unit of each slot exists.
 #[derive(Debug, Drop)]
 pub struct Layout {
     units: Sequence<Unit>,
@@ -62,7 +62,7 @@ impl Model for Layout {
 }
 
 impl Unit {
-    /// An equal unit, on the allocators of its texts.
+    /// Makes an equal unit, on the allocators of its texts.
     fn copy(&self) -> Result<Unit, Memory>
         ensures { IfOk result (λ copy. copy ≡ self.now) }
     {
@@ -94,7 +94,7 @@ impl Layout {
     /// The greatest number of units above one.
     pub const MAX_ABOVE: usize = 4;
 
-    /// The layout of these units and slots. It takes no memory.
+    /// Makes the layout of these units and slots. It allocates nothing.
     pub fn new(units: Sequence<Unit>, slots: Sequence<Slot>) -> Layout
         requires { IsLayout (record { units = units; slots = slots }) }
         ensures units { result.units ≡ units }
@@ -103,7 +103,7 @@ impl Layout {
         Layout { units, slots }
     }
 
-    /// The units, by their numbers.
+    /// Returns the units, by their numbers.
     pub fn units(&self) -> &[Unit]
         ensures units { result.now ≡ self.now.units }
         ensures rules { IsLayout self.now }
@@ -111,7 +111,7 @@ impl Layout {
         self.units.as_slice()
     }
 
-    /// The slots, by their places.
+    /// Returns the slots, by their places.
     pub fn slots(&self) -> &[Slot]
         ensures slots { result.now ≡ self.now.slots }
         ensures rules { IsLayout self.now }
@@ -119,7 +119,7 @@ impl Layout {
         self.slots.as_slice()
     }
 
-    /// The size of the code object, in bytes.
+    /// Returns the size of the code object, in bytes.
     pub fn size(&self) -> u32
         ensures size { result ≡ SLOT_SIZE * length self.now.slots }
         ensures bound { result ≤ SLOT_SIZE * Layout.MAX_SLOTS }
@@ -127,7 +127,7 @@ impl Layout {
         self.slots.len() as u32 * SLOT_SIZE
     }
 
-    /// An equal layout, on the allocators of its lists.
+    /// Makes an equal layout, on the allocators of its lists.
     pub fn copy(&self) -> Result<Layout, Memory>
         ensures { IfOk result (λ copy. copy ≡ self.now) }
     {

@@ -1,5 +1,5 @@
-//! What an isolate raises and a processor takes: code events and ticks; and what comes of them: paths
-//! and finished profiles. `specs/` has the definitions of everything in a profile's file.
+//! What an isolate raises and a processor takes: code events and ticks; and what is made of them:
+//! paths and finished profiles. `specs/` has the definitions of everything in a profile's file.
 #![tactic(auto)]
 
 mod code_map;

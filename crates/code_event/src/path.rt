@@ -1,4 +1,4 @@
-// Paths: what a tick says of the functions on its stack.
+// Paths: the functions on the stack of a tick.
 ghost use Rattle.std.specs.Prelude.{◌≡◌, IfOk};
 
 use crate::entry::Entry;
@@ -18,12 +18,12 @@ pub struct PathStep {
 pub struct PathPair {
     pub leaf: Sequence<PathStep>,
     pub caller: Sequence<PathStep>,
-    /// The line at which the youngest function was, or 0 for none.
+    /// The line at which the youngest function was, or 0 where there is none.
     pub leaf_line: u32,
 }
 
 impl PathStep {
-    /// An equal step, which shares its texts.
+    /// Makes an equal step, which shares its texts.
     pub fn copy(&self) -> Result<PathStep, Memory>
         ensures { IfOk result (λ copy. copy ≡ self.now) }
     {

@@ -9,17 +9,18 @@ pub struct LineTicks {
     pub ticks: u64,
 }
 
-/// A node of a finished profile: `ProfileNode` there. Its id is its place among the nodes, from 1.
+/// A node of a finished profile: `ProfileNode` in the same protocol. Its id is its place among the
+/// nodes, from 1.
 #[derive(Debug, Drop)]
 pub struct FinNode {
     pub entry: Entry,
-    /// Why the function is not optimised, if it was said.
+    /// Why the function is not optimised, if a reason was given.
     pub reason: Option<Text>,
-    /// The hits with just its path.
+    /// The hits with exactly its path.
     pub hits: u64,
-    /// The ids of the nodes right below it, in order.
+    /// The ids of the nodes directly below it, in order.
     pub children: Sequence<u32>,
-    /// Its hits by the line at which the function was, by rising line.
+    /// Its hits by the line at which the function was, in rising order of the lines.
     pub lines: Sequence<LineTicks>,
 }
 

@@ -6,7 +6,7 @@ use crate::event::Options;
 use prof_base::{Memory, Micros, Sequence, SessionId, Text};
 
 /// A frame of the guest's stack, resolved to its function and the line at which that was. One
-/// address of code with inlined functions resolves to several.
+/// address of code with inlined functions resolves to several frames.
 #[derive(Debug, Drop)]
 pub struct ResolvedFrame {
     pub entry: Entry,
@@ -34,8 +34,8 @@ pub struct DeoptReason {
     pub reason: Text,
 }
 
-/// A mark of a session, or a tick. The reasons are those of the moment, the latest first: the first
-/// of an entry counts.
+/// A mark of a session, or a tick. The reasons are those at that moment, the latest first: the
+/// first of an entry counts.
 #[derive(Debug, Drop)]
 pub enum Seen {
     Started {
@@ -57,7 +57,7 @@ pub enum Seen {
 }
 
 impl ResolvedFrame {
-    /// An equal frame, which shares its texts.
+    /// Makes an equal frame, which shares its texts.
     pub fn copy(&self) -> Result<ResolvedFrame, Memory>
         ensures { IfOk result (λ copy. copy ≡ self.now) }
     {
@@ -69,7 +69,7 @@ impl ResolvedFrame {
 }
 
 impl DeoptReason {
-    /// An equal reason, which shares its texts.
+    /// Makes an equal reason, which shares its texts.
     pub fn copy(&self) -> Result<DeoptReason, Memory>
         ensures { IfOk result (λ copy. copy ≡ self.now) }
     {

@@ -19,7 +19,8 @@ pub enum VmState {
     Gc,
 }
 
-/// The addresses of a stack, youngest first: up to 255, as in V8's `TickSample`. It takes no memory.
+/// The addresses of a stack, youngest first: up to 255, as in V8's `TickSample`. It allocates
+/// nothing.
 #[derive(Debug, Drop)]
 pub struct Frames {
     addresses: ArrayVec<u32, 255>,
@@ -37,7 +38,7 @@ impl Frames {
     /// The greatest number of addresses.
     pub const MAX_LEN: usize = 255;
 
-    /// No addresses.
+    /// Makes a list of no addresses.
     pub fn new() -> Frames
         ensures { result ≡ [] }
     {
@@ -54,7 +55,7 @@ impl Frames {
         self.addresses.push(address);
     }
 
-    /// The addresses, youngest first.
+    /// Returns the addresses, youngest first.
     pub fn as_slice(&self) -> &[u32]
         ensures addresses { result.now ≡ self.now }
         ensures few { length self.now ≤ Frames.MAX_LEN }
@@ -62,7 +63,7 @@ impl Frames {
         self.addresses.as_slice()
     }
 
-    /// The same addresses.
+    /// Makes a list of the same addresses.
     pub fn copy(&self) -> Frames
         ensures { result ≡ self.now }
     {
@@ -94,7 +95,7 @@ pub struct Tick {
 }
 
 impl Tick {
-    /// An equal tick. It takes no memory.
+    /// Makes an equal tick. It allocates nothing.
     pub fn copy(&self) -> Tick
         ensures { result ≡ self.now }
     {

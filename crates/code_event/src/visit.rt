@@ -7,7 +7,7 @@ use prof_base::Sequence;
 pub struct Visit {
     /// The functions on the stack, oldest first.
     pub path: Sequence<PathStep>,
-    /// The line at which the youngest function was, or 0 for none.
+    /// The line at which the youngest function was, or 0 where there is none.
     pub line: u32,
     /// Whether the tick counts as a hit.
     pub hit: bool,

@@ -1,4 +1,4 @@
-//! `cpuprof`: does what the words of its command line say, and ends with the status of that.
+//! `cpuprof`: does what the words of its command line say, and exits with the resulting status.
 #![tactic(auto)]
 
 use cpuprof_program::{OUT_OF_MEMORY, run_words};
@@ -8,8 +8,8 @@ use std::io::ErrorKind;
 use std::process::ExitCode;
 use std::rt::Env;
 
-// The words after the program's name. One that is not UTF-8 fits no command, and then there are
-// none, which is no command either.
+// Returns the words after the program's name. If one of them is not UTF-8, it returns no words:
+// neither is a command.
 fn words<R: Env + AllocGlobal>(rt: &R) -> Result<Vec<String>, Memory> {
     match env::args(rt) {
         Ok(all) => Ok(all.skip(1).collect::<Vec<String>>(rt.alloc())?),

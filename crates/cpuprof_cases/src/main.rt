@@ -1,4 +1,4 @@
-//! Runs the program's words for each line of the file `cases`, and prints what it printed, its
+//! Runs the program on the words of each line of the file `cases`, and prints what it printed, its
 //! status, and the files that it left in the folder.
 #![tactic(auto)]
 
@@ -22,7 +22,7 @@ fn words_of(alloc: Global, line: &str) -> Result<Vec<String>> {
     Ok(words)
 }
 
-// Prints the file, and removes it, if it is there.
+// Prints the file, and removes it, if there is one.
 fn print_file(rt: HostRuntime, name: &str) -> Result<()> {
     if fs::exists(&rt, name)? {
         let text = fs::read_to_string(&rt, name)?;

@@ -11,14 +11,14 @@ use prof_outer::{Folder, WriterSink};
 use prof_top::cpuprof_once;
 use std::io::Write;
 
-/// The exit status where memory was refused.
+/// The exit status when out of memory.
 pub const OUT_OF_MEMORY: u8 = 6;
 
 /// The number of the program's stream: its files are `cpuprof-1-1.cpuprofile` and so on.
 const STREAM: u8 = 1;
 
 /// Does what the words say, over the files of the current folder. It writes finished files there,
-/// prints to `out`, writes the line of error to `err`, and answers the exit status.
+/// prints to `out`, writes the line of error to `err`, and returns the exit status.
 pub fn run_words<O: Write + Drop, E: Write + Drop>(
     rt: HostRuntime,
     words: &[String],

@@ -15,17 +15,17 @@ use Rattle.guest_machine.specs.Laws.{DeoptsTakeCodeAway}
 use Rattle.guest_machine.specs.PlainMachine.{State, Frame, Code, ends, rises, with_register, register, sets, jumps, calls, returns, waits, code_at, says, optimised, deoptimised, disabled, does, instr_of, js_step, wait_step, is_js, step, plain, gives_up, js_gives_up, deopts}
 use Rattle.guest_machine.specs.declared.ended.Ended.TheVariants as end
 
--- what a list says of a function
+-- the code of a function in a list
 abbrev said : List Code → ℕ → Code
 said codes func = option_map_or (λ code. code) (slice_get codes func) (record { optimised = false; disabled = false; reason = None })
 
--- of a function that is optimised, what was put into the list is said
+-- what is put into the list for a function that is optimised is then its code
 said-set : (codes : List Code) (func : ℕ) (code : Code) → (said codes func).optimised ≡ true → said (slice_set codes func code) func ≡ code
 said-set [] func code is = absurd (cc is)
 said-set (first ∷ codes) zero code is = refl
 said-set (first ∷ codes) (suc func) code is = said-set codes func code is
 
--- what is optimised after one list is so after the other
+-- what is optimised in one list is optimised in the other
 abbrev KeepsCode : List Code → List Code → Type 0
 KeepsCode before after = (func : ℕ) → (said before func).optimised ≡ true → (said after func).optimised ≡ true
 
@@ -36,14 +36,14 @@ set_keeps (first ∷ codes) zero code keeps (suc other) is = is
 set_keeps (first ∷ codes) (suc func) code keeps zero is = is
 set_keeps (first ∷ codes) (suc func) code keeps (suc other) is = set_keeps codes func code keeps other is
 
--- what is optimised, `opt` leaves so
+-- `opt` keeps optimised what is optimised
 optimised_keeps : (size : ℕ) (code : Code) → code.optimised ≡ true → (optimised size code).optimised ≡ true
 optimised_keeps size code is =
     let large : Code = record { optimised = false; disabled = true; reason = Some (codes "too large") } in
     let either : (code.optimised || code.disabled) ≡ true = ap (λ b. b || code.disabled) is in
     ap (λ (c : Code). c.optimised) (cond-true (code.optimised || code.disabled) code (if nat_lt 4096 size then large else record code { optimised = true }) either) ∙ is
 
--- and `deopt` leaves nothing so
+-- after `deopt` a function is not optimised
 deoptimised_not : (reason : List ℕ) (code : Code) → (deoptimised reason code).optimised ≡ false
 deoptimised_not reason code =
     cond_both code.optimised (record { optimised = false; disabled = code.disabled; reason = Some reason }) code (λ (after : Code). after.optimised ≡ false)
@@ -120,7 +120,7 @@ module _ (funcs : List Func) where
   does_keeps state frame callers (op.Native steps) none = waits_keeps state frame callers Native steps
   does_keeps state frame callers (op.Collect steps) none = waits_keeps state frame callers Gc steps
 
-  -- optimised code that an operation gives up is taken away, where the operation does not end the machine
+  -- optimised code that an operation gives up is taken away, unless the operation ends the machine
   does_takes : (state : State) (frame : Frame) (callers : List Frame) (op : Op) → gives_up state op ≡ true
       → is_some (does funcs state frame callers op).ended ≡ false → Takes state (does funcs state frame callers op)
   does_takes state frame callers (op.Deopt func reason) gives goes_on =

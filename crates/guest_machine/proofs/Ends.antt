@@ -1,4 +1,4 @@
--- That nothing follows the end.
+-- That nothing changes after the end.
 use Rattle.std.proofs.Common.{◌≡◌, zero, suc, List, ap, ◌∙◌}
 use Rattle.std.proofs.Math.Nat.{add-suc, add-zero}
 use Rattle.std.proofs.lemmas.Bool.{cond-true}
@@ -7,7 +7,7 @@ use Rattle.guest_text.specs.declared.instr.Func.{Func}
 use Rattle.guest_machine.specs.Laws.{EndsAreFinal, NoneIsGivenUpAtTheEnd}
 use Rattle.guest_machine.specs.PlainMachine.{State, plain, step, is_js, js_step, js_gives_up, wait_step}
 
--- a step after the end
+-- a step after the end changes nothing
 stays : (funcs : List Func) (state : State) → is_some state.ended ≡ true → step funcs state ≡ state
 stays funcs state ended = cond-true (is_some state.ended) state (if is_js state.state then js_step funcs state state.stack else wait_step state) ended
 

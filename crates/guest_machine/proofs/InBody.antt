@@ -20,7 +20,7 @@ got P [] index x all is = absurd (cc is)
 got P (y ∷ xs) zero x all is = let e : y ≡ x = cc is in subst P e all.0
 got P (y ∷ xs) (suc index) x all is = got P xs index x all.1 is
 
--- of each function in a list
+-- what follows from a claim on each function, for the body of the function with this number
 at_each : (P : Func → Type 0) (Q : List Instr → Type 0) (funcs : List Func) (number : ℕ) → ((func : Func) → P func → Q func.body)
     → AllByRecursion P funcs → number < length funcs → Q (body_of funcs number)
 at_each P Q [] number each all within = absurd (omega arith)
@@ -36,7 +36,7 @@ body_fits : (funcs : List Func) (number : ℕ) → IsProgram funcs → number < 
 body_fits funcs number program within =
     at_each (IsFunc (length funcs)) (λ body. AllByRecursion (IsInstr (length funcs) (length body)) body) funcs number (λ func is. is.body) program.each within
 
--- the test of a label that is there
+-- the test of a label succeeds where the label is the word
 labelled : (label word : List ℕ) → label ≡ word → bytes_eq label word ≡ true
 labelled label word e = (bytes_eq-Decides label word).1 e
 

@@ -1,4 +1,4 @@
--- What each step keeps of the stack and of what is said of functions, told from what single frames keep.
+-- What each step keeps of the stack and of the functions' code, derived from what single frames keep.
 use Rattle.std.proofs.Common.{◌≡◌, ℕ, zero, suc, ◌+◌, ◌-◌, ◌*◌, ◌^◌, ◌<◌, ◌≤◌, List, [], ◌∷◌, ◌++◌, length, refl, ◌∙◌, arith}
 use Rattle.std.proofs.lemmas.Bool.{cond_both, ltb-true}
 use Rattle.std.proofs.lemmas.List.{length-set, length-map}
@@ -22,7 +22,7 @@ OpFits Place Callee (op.Jz tested index) = Place index
 OpFits Place Callee (op.Call func) = Callee func.0
 OpFits Place Callee other = Unit {0}
 
--- what is to be shown of a claim on frames, so that each frame keeps it
+-- what has to be shown of a claim on frames for each frame to keep it
 pub record Moves (funcs : List Func) (P : Frame → Type 0) (Place : Frame → ℕ → Type 0) (Callee : ℕ → Type 0) : Type 0 where
   pub begins : P (record { func = main_of funcs; index = 0; registers = zeros })
   pub rising : (frame : Frame) → P frame → suc frame.index < length (body_of funcs frame.func) → P (record frame { index = suc frame.index })
@@ -31,7 +31,7 @@ pub record Moves (funcs : List Func) (P : Frame → Type 0) (Place : Frame → �
   pub calling : (frame : Frame) (func : ℕ) → P frame → Callee func → P (record { func = func; index = 0; registers = frame.registers })
   pub fitting : (frame : Frame) (instr : Instr) → P frame → instr_of funcs frame ≡ Some instr → OpFits (Place frame) Callee instr.op
 
--- a stack with a frame, with room, and with the claim for each frame
+-- a stack that has a frame and has room, and the claim for each frame
 pub record StackKept (P : Frame → Type 0) (stack : List Frame) : Type 0 where
   pub some : 1 ≤ length stack
   pub room : length stack ≤ 255

@@ -1,4 +1,4 @@
--- That stacks are bounded, that code is said of each function, and that each frame has its registers.
+-- That stacks are bounded, that each function has its code, and that each frame has its registers.
 use Rattle.std.proofs.Common.{ℕ, zero, suc, ◌%◌, ◌^◌, ◌<◌, List, [], ◌∷◌, refl, ◌∙◌}
 use Rattle.std.proofs.Math.Dec.{lit<}
 use Rattle.std.proofs.lemmas.List.{length-set}
@@ -10,7 +10,7 @@ use Rattle.guest_machine.proofs.Kept.{Moves, Kept, any_fits, plain_keeps}
 use Rattle.guest_machine.specs.Laws.{StacksAreNotEmpty, StacksAreSmall, CodeIsOfFunctions, HasRegisters, FramesHaveRegisters}
 use Rattle.guest_machine.specs.PlainMachine.{Frame, plain, with_register}
 
--- a number that is put into a list
+-- an element that is put into a list
 all_set : {X : Type 0} (P : X → Type 0) (xs : List X) (index : ℕ) (x : X) → P x → AllByRecursion P xs → AllByRecursion P (slice_set xs index x)
 all_set P [] index x here all = tt
 all_set P (y ∷ xs) zero x here all = (here, all.1)

@@ -54,7 +54,7 @@ waiting = main_alone (op.Native 2 ∷ op.Idle 1 ∷ op.Halt ∷ [])
 abbrev pub calling : List Func
 calling = main_and (op.Set 1 7 ∷ op.Call (func 1) ∷ op.Print 0 ∷ op.Halt ∷ []) false (op.Set 0 5 ∷ op.Set 1 1 ∷ op.Ret ∷ [])
 
--- it calls itself for good
+-- it calls itself forever
 abbrev pub deep : List Func
 deep = main_alone (op.Call (func 0) ∷ [])
 
@@ -62,7 +62,7 @@ deep = main_alone (op.Call (func 0) ∷ [])
 abbrev pub running_off : List Func
 running_off = main_alone (op.Set 0 1 ∷ [])
 
--- a function with eight calls of itself, to be taken in
+-- an inline function that calls itself eight times
 abbrev pub growing : List Func
 growing =
     main_and (op.Opt (func 1) ∷ op.Halt ∷ []) true (
@@ -70,11 +70,11 @@ growing =
     ∷ op.Call (func 1) ∷ op.Call (func 1) ∷ op.Call (func 1) ∷ op.Call (func 1) ∷ []
     )
 
--- a function is optimised, given up, and given up once more, when there is nothing to give up
+-- a function is optimised, its optimised code is given up, and then is to be given up again, when there is none
 abbrev pub deoptimising : List Func
 deoptimising = main_and (op.Opt (func 1) ∷ op.Deopt (func 1) (codes "x") ∷ op.Deopt (func 1) (codes "y") ∷ op.Halt ∷ []) false (op.Ret ∷ [])
 
--- the last instruction of the body would give up an optimised function, but its index cannot rise
+-- the last instruction of the body would give up optimised code, but its index cannot rise
 abbrev pub deoptimising_last : List Func
 deoptimising_last = main_and (op.Opt (func 1) ∷ op.Deopt (func 1) (codes "x") ∷ []) false (op.Ret ∷ [])
 

@@ -1,4 +1,4 @@
--- What holds of the plain machine, whatever its program and however many its steps.
+-- What holds of the plain machine for every program and every number of steps.
 use Rattle.std.specs.Prelude.{◌≡◌, ◌↔◌, ℕ, suc, ◌+◌, ◌^◌, ◌<◌, ◌≤◌, List, length, true, false, is_some}
 use Rattle.std.specs.List.{AllByRecursion}
 use Rattle.guest_text.specs.InlinedSize.{body_of}
@@ -6,7 +6,7 @@ use Rattle.guest_text.specs.Program.{IsProgram}
 use Rattle.guest_text.specs.declared.instr.Func.{Func}
 use Rattle.guest_machine.specs.PlainMachine.{Frame, plain, deopts, code_at, instr_of}
 
--- where the machine has ended after a number of steps, it is the same after any more
+-- where the machine has ended after a number of steps, it is the same after any further steps
 abbrev pub EndsAreFinal : Type 0
 EndsAreFinal = (funcs : List Func) (steps more : ℕ) → is_some (plain funcs steps).ended ≡ true → plain funcs (steps + more) ≡ plain funcs steps
 
@@ -22,11 +22,11 @@ StacksAreNotEmpty = (funcs : List Func) (steps : ℕ) → 1 ≤ length (plain fu
 abbrev pub StacksAreSmall : Type 0
 StacksAreSmall = (funcs : List Func) (steps : ℕ) → length (plain funcs steps).stack ≤ 255
 
--- there is always something said of each function, and of nothing else
+-- the machine always has the code of each function, and of nothing else
 abbrev pub CodeIsOfFunctions : Type 0
 CodeIsOfFunctions = (funcs : List Func) (steps : ℕ) → length (plain funcs steps).code ≡ length funcs
 
--- a frame of a function that there is, at one of its instructions
+-- a frame of a function that exists, at one of its instructions
 pub record IsInBody (funcs : List Func) (frame : Frame) : Type 0 where
   pub func : frame.func < length funcs
   pub index : frame.index < length (body_of funcs frame.func)
@@ -48,10 +48,10 @@ pub record HasRegisters (frame : Frame) : Type 0 where
 abbrev pub FramesHaveRegisters : Type 0
 FramesHaveRegisters = (funcs : List Func) (steps : ℕ) → AllByRecursion HasRegisters (plain funcs steps).stack
 
--- the step after this many takes a function's optimised code away
+-- the step after this many steps takes a function's optimised code away
 abbrev pub TakesCodeAway : List Func → ℕ → Type 0
 TakesCodeAway funcs steps = (func : ℕ) × ((code_at (plain funcs steps) func).optimised ≡ true) × ((code_at (plain funcs (suc steps)) func).optimised ≡ false)
 
--- a step makes a deoptimisation just where it takes some function's optimised code away
+-- a step makes a deoptimisation exactly where it takes some function's optimised code away
 abbrev pub DeoptsTakeCodeAway : Type 0
 DeoptsTakeCodeAway = (funcs : List Func) (steps : ℕ) → (deopts funcs steps ≡ true) ↔ TakesCodeAway funcs steps

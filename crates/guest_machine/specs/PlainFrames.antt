@@ -20,15 +20,15 @@ resolved_frame funcs frame =
     option_map_or (λ func. option_map_or (λ instr. record { entry = func_entry func; line = instr.line } ∷ []) (slice_get func.body frame.index) [])
     (slice_get funcs frame.func) []
 
--- the functions on the stack of a machine, oldest first; while its engine does something else, that
+-- the functions on the stack of a machine, oldest first; while its engine is not running guest code, the frame that names what it does
 abbrev pub plain_frames : List Func → State → List ResolvedFrame
 plain_frames funcs state = if is_js state.state then flat_map (resolved_frame funcs) (frames state) else frames_over [] state.state []
 
--- the reason that is said of the function with this entry
+-- the deopt reason of the function with this entry
 abbrev pub reason_in : List Func → List Code → Entry → Option (List ℕ)
 reason_in (func ∷ funcs) (code ∷ codes) entry = if same_entry (func_entry func) entry then code.reason else reason_in funcs codes entry
 reason_in funcs codes entry = None
 
--- the reasons of a machine
+-- the deopt reasons of a machine
 abbrev pub reasons_of : List Func → State → DeoptReasons
 reasons_of funcs state entry = reason_in funcs state.code entry

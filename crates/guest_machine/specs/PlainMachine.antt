@@ -1,4 +1,4 @@
--- The guest as its programs are meant: over functions, indices and numbers alone, with no code and no addresses.
+-- The meaning of guest programs: over functions, indices and numbers alone, with no code and no addresses.
 use Rattle.std.specs.Prelude.{bytes_eq, ℕ, zero, suc, ◌+◌, ◌-◌, ◌*◌, ◌%◌, ◌^◌, List, [], ◌∷◌, ◌++◌, length, map, reverse, Bool, true, false, not, ◌&&◌, ◌||◌, ◌==◌, nat_lt, nat_le, Option, Some, None, is_some, codes, decimal, slice_index, slice_set, if◌then◌else◌}
 use Rattle.std.specs.Option.{option_map_or}
 use Rattle.std.specs.List.{slice_get}
@@ -18,13 +18,13 @@ pub record Frame : Type 0 where
   pub index : ℕ
   pub registers : List ℕ
 
--- what is said of the optimised code of a function
+-- the code of a function: whether there is optimised code, whether optimising is disabled, and the reason that was given last
 pub record Code : Type 0 where
   pub optimised : Bool
   pub disabled : Bool
   pub reason : Option (List ℕ)
 
--- The machine: its frames, the youngest first; the state of its engine, and for how many more steps where that is not Js; the text that it has printed; what is said of each function; and its end.
+-- The machine: its frames, the youngest first; the state of its engine, and for how many more steps if that is not Js; the text that it has printed; the code of each function; and its end.
 pub record State : Type 0 where
   pub stack : List Frame
   pub state : VmState
@@ -37,7 +37,7 @@ pub record State : Type 0 where
 abbrev pub frames : State → List Frame
 frames state = reverse state.stack
 
--- nothing is said of a function
+-- a function with no optimised code, not disabled and with no reason
 abbrev pub plain_code : Func → Code
 plain_code func = record { optimised = false; disabled = false; reason = None }
 
@@ -65,11 +65,11 @@ start funcs =
       ended = None;
     }
 
--- the machine has ended so
+-- the machine has ended in this way
 abbrev pub ends : Ended → State → State
 ends ended state = record state { ended = Some ended }
 
--- the frame's index rises by 1 in the machine that the step has made; where it would leave the body, the machine before the step has ended
+-- the frame's index rises by 1 in the machine that the step has made; if it would leave the body, the machine before the step has ended
 abbrev pub rises : List Func → State → State → Frame → List Frame → State
 rises funcs before state frame callers =
     if nat_lt (suc frame.index) (length (body_of funcs frame.func))
@@ -91,14 +91,14 @@ sets funcs state frame callers to number = rises funcs state state (with_registe
 abbrev pub jumps : State → Frame → List Frame → ℕ → State
 jumps state frame callers index = record state { stack = record frame { index = index } ∷ callers }
 
--- a frame of the function goes on top; with 255 frames there is no room
+-- a frame of the function is put on top; after 255 frames there is no room
 abbrev pub calls : State → Frame → List Frame → ℕ → State
 calls state frame callers func =
     if nat_lt (length callers) 254
     then record state { stack = record { func = func; index = 0; registers = frame.registers } ∷ frame ∷ callers }
     else ends end.Overflow state
 
--- the caller gets r0 and goes on; with no caller the program ends
+-- the caller gets r0 and goes on; if there is no caller, the program ends
 abbrev pub returns : List Func → State → Frame → List Frame → State
 returns funcs state frame [] = ends end.Halt state
 returns funcs state frame (caller ∷ callers) = rises funcs state state (with_register caller 0 (register frame 0)) callers
@@ -107,26 +107,26 @@ returns funcs state frame (caller ∷ callers) = rises funcs state state (with_r
 abbrev pub waits : List Func → State → Frame → List Frame → VmState → ℕ → State
 waits funcs state frame callers engine steps = rises funcs state (record state { state = engine; rest = steps }) frame callers
 
--- what is said of a function
+-- the code of a function
 abbrev pub code_at : State → ℕ → Code
 code_at state func = option_map_or (λ code. code) (slice_get state.code func) (record { optimised = false; disabled = false; reason = None })
 
--- this is said of a function from now on, and the index rises
+-- this is the code of a function from now on, and the index rises
 abbrev pub says : List Func → State → Frame → List Frame → ℕ → Code → State
 says funcs state frame callers func code = rises funcs state (record state { code = slice_set state.code func code }) frame callers
 
--- what `opt` makes of what is said: nothing of what is optimised or disabled; what is too large is disabled
+-- the code of a function after `opt`: what is optimised or disabled stays the same; what is too large is disabled
 abbrev pub optimised : ℕ → Code → Code
 optimised size code =
     if code.optimised || code.disabled then code
     else if nat_lt 4096 size then record { optimised = false; disabled = true; reason = Some (codes "too large") }
     else record code { optimised = true }
 
--- what `deopt` makes of it: what is optimised is so no more, for the reason given
+-- the code of a function after `deopt`: what is optimised no longer is, for the reason given
 abbrev pub deoptimised : List ℕ → Code → Code
 deoptimised reason code = if code.optimised then record { optimised = false; disabled = code.disabled; reason = Some reason } else code
 
--- what `noopt` makes of it
+-- the code of a function after `noopt`
 abbrev pub disabled : List ℕ → Code → Code
 disabled reason code = record { optimised = code.optimised; disabled = true; reason = Some reason }
 
@@ -161,7 +161,7 @@ abbrev pub js_step : List Func → State → List Frame → State
 js_step funcs state [] = state
 js_step funcs state (frame ∷ callers) = option_map_or (λ instr. does funcs state frame callers instr.op) (instr_of funcs frame) state
 
--- a step in another state: one less to go, and at 0 the state is Js
+-- a step in another state: one step less is left, and at 0 the state is Js
 abbrev pub wait_step : State → State
 wait_step state = if nat_le state.rest 1 then record state { state = Js; rest = 0 } else record state { rest = state.rest - 1 }
 
@@ -171,7 +171,7 @@ is_js Idle = false
 is_js Native = false
 is_js Gc = false
 
--- a step; after the end there is none
+-- a step; after the end it changes nothing
 abbrev pub step : List Func → State → State
 step funcs state =
     if is_some state.ended then state
@@ -192,7 +192,7 @@ abbrev pub js_gives_up : List Func → State → List Frame → Bool
 js_gives_up funcs state [] = false
 js_gives_up funcs state (frame ∷ callers) = option_map_or (λ instr. gives_up state instr.op) (instr_of funcs frame) false
 
--- whether the step after this many makes a deoptimisation: it gives optimised code up, and does not leave the body
+-- whether the step after this many steps makes a deoptimisation: it gives optimised code up, and does not leave the body
 abbrev pub deopts : List Func → ℕ → Bool
 deopts funcs steps =
     let before = plain funcs steps in

@@ -7,7 +7,8 @@ ghost use Rattle.guest_machine.specs.Examples.{places, waiting, calling, deep, r
 ghost use Rattle.guest_machine.specs.declared.ended.Ended.TheVariants as end;
 ghost use Rattle.code_event.specs.declared.tick.VmState.TheVariants as state;
 
-/// `native 2` takes a step and then two in state Native; `idle 1` takes one and one.
+/// `native 2` takes one step and then two in state Native; `idle 1` takes one step and then one in
+/// state Idle.
 pub fn waiting_takes_its_steps()
     ensures native { (plain waiting 1).state ≡ state.Native }
     ensures still_native { (plain waiting 2).state ≡ state.Native }
@@ -18,7 +19,7 @@ pub fn waiting_takes_its_steps()
     ensures stays { plain waiting 7 ≡ plain waiting 6 }
 {}
 
-/// A call leaves the caller at its index and copies its registers; a return gives r0 back alone.
+/// A call leaves the caller at its index and copies its registers; a return gives back only r0.
 pub fn a_call_returns_its_first_register()
     ensures called { places (plain calling 2) ≡ (0, 1) ∷ (1, 0) ∷ [] }
     ensures returned { places (plain calling 5) ≡ (0, 2) ∷ [] }
@@ -27,7 +28,8 @@ pub fn a_call_returns_its_first_register()
     ensures ended { (plain calling 7).ended ≡ Some end.Halt }
 {}
 
-/// A stack has room for 255 frames. The step that finds it full counts, and changes nothing else.
+/// A stack has room for 255 frames. The step that finds it full ends the machine, and changes
+/// nothing else.
 pub fn the_256th_frame_is_a_trap()
     ensures full { length (plain deep 254).stack ≡ 255 }
     ensures not_ended { (plain deep 254).ended ≡ None }
@@ -35,13 +37,13 @@ pub fn the_256th_frame_is_a_trap()
     ensures stays { (plain deep 255).stack ≡ (plain deep 254).stack }
 {}
 
-/// An index that would leave the body is a trap, and the step changes nothing else.
+/// An index that would leave the body ends the machine, and the step changes nothing else.
 pub fn running_off_the_end_is_a_trap()
     ensures ended { (plain running_off 1).ended ≡ Some end.OffEnd }
     ensures stays { (plain running_off 1).stack ≡ (plain running_off 0).stack }
 {}
 
-/// A function whose inlined code would be too large is not optimised, and says so.
+/// A function whose inlined code would be too large is not optimised, and its reason says so.
 pub fn what_is_too_large_is_disabled()
     ensures size { inlined_size growing 4 1 ≡ 37448 }
     ensures code { code_at (plain growing 1) 1 ≡ record { optimised = false; disabled = true; reason = Some (codes "too large") } }
@@ -56,7 +58,7 @@ pub fn only_optimised_code_is_given_up()
     ensures stays { (code_at (plain deoptimising 3) 1).reason ≡ Some (codes "x") }
 {}
 
-/// A deoptimisation that would leave the body ends the machine instead, and takes nothing away.
+/// A deoptimisation that would leave the body ends the machine instead, and takes no code away.
 pub fn a_deoptimisation_that_leaves_the_body_is_none()
     ensures optimised { (code_at (plain deoptimising_last 1) 1).optimised ≡ true }
     ensures none { deopts deoptimising_last 1 ≡ false }

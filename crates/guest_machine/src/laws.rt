@@ -7,31 +7,31 @@ pub fn nothing_follows_the_end()
     ensures none_given_up { NoneIsGivenUpAtTheEnd }
 {}
 
-/// Whatever the program, and also after its end, there is a frame, and there are never more than 255.
+/// For every program, and also after its end, there is a frame, and there are never more than 255.
 pub fn the_stack_has_1_to_255_frames()
     ensures some { StacksAreNotEmpty }
     ensures room { StacksAreSmall }
 {}
 
-/// What is said of code is always said of each function of the program, and of nothing else.
+/// The machine always has the code of each function of the program, and of nothing else.
 pub fn code_is_said_of_each_function()
     ensures { CodeIsOfFunctions }
 {}
 
-/// In a program that keeps the rules, each frame is always in a function that there is, at one of its
+/// In a program that keeps the rules, each frame is always in a function that exists, at one of its
 /// instructions. So the machine always has an operation to do.
 pub fn each_frame_is_in_its_body()
     ensures in_body { FramesAreInBodies }
     ensures instruction { FramesHaveInstructions }
 {}
 
-/// Each frame always has eight registers, and each register is less than 2^64, whatever the program.
+/// In every program each frame always has eight registers, and each register is less than 2^64.
 pub fn registers_are_below_two_to_the_64()
     ensures { FramesHaveRegisters }
 {}
 
-/// A deoptimisation is a step after which some function that was optimised is optimised no more, and
-/// there is no other.
+/// A step is a deoptimisation exactly where some function is optimised before it and not optimised
+/// after it.
 pub fn deoptimisations_take_code_away()
     ensures { DeoptsTakeCodeAway }
 {}

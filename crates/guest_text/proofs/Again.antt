@@ -1,4 +1,4 @@
--- What was written is read again.
+-- What was written is read back the same.
 use Rattle.std.proofs.Common.{◌≡◌, ◌∙◌, ℕ, zero, suc, ◌+◌, ◌-◌, ◌*◌, ◌^◌, ◌≤◌, ◌<◌, List, [], ◌∷◌, ◌++◌, length, take, Some, None, Bool, true, false, cond, ◌&&◌, ◌||◌, ◌==◌, nat_le, get_or, refl, ap, append_assoc, length-append, arith, rules, codes, decimal, bytes_eq}
 use Rattle.std.specs.List.{list_all}
 use Rattle.std.proofs.lemmas.List.{take_at, drop_at}
@@ -22,12 +22,12 @@ and_false : (x y : Bool) → y ≡ false → (x && y) ≡ false
 and_false true y h = h
 and_false false y h = refl
 
--- other bytes stand there
+-- the bytes do not begin with these
 pub behind_other : (lead bytes : List ℕ) → bytes_eq (take (length lead) bytes) lead ≡ false → behind lead bytes ≡ None
 unfolding behind
 behind_other lead bytes h = rw (and_false (nat_le (length lead) (length bytes)) (bytes_eq (take (length lead) bytes) lead) h) refl
 
--- the value of digits after those of n
+-- the value of the digits that follow a value n
 abbrev value_from : ℕ → List ℕ → ℕ
 value_from n [] = n
 value_from n (b ∷ digits) = value_from (10 * n + (b - 48)) digits
@@ -60,7 +60,7 @@ number_begins : (digits rest : List ℕ) → list_all is_digit digits ≡ true �
 number_begins [] rest h lead = absurd (omega arith)
 number_begins (b ∷ digits) rest h lead = rw ((and_true (is_digit b) (list_all is_digit digits) h).0, not_zero b lead) refl
 
--- the first digit is no zero, or it is alone
+-- the first digit is not a zero, or it is the only one
 decimal_begins : (n : ℕ) (rest : List ℕ) → n < 2 ^ 64 → Stops rest → begins_with_number (decimal n ++ rest) ≡ true
 decimal_begins zero rest h s = rw (decimal_digit 0 (omega arith), s) refl
 decimal_begins (suc n) rest h s = number_begins (decimal (suc n)) rest (digits_decimal own (suc n) h) (first_decimal (suc n) (omega arith) h)

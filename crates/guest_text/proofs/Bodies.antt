@@ -5,7 +5,7 @@ use Rattle.std.proofs.lemmas.Bool.Decides.{nat_tests}
 use Rattle.guest_text.specs.declared.instr.Instr.{Instr}
 use Rattle.guest_text.specs.Reading.{◌>>=◌, instr_at, body_at}
 
--- the instructions read before, and those still read
+-- the instructions that were read before, and those that are still to be read
 abbrev pub with_instrs : List Instr → Option (List Instr) → Option (List Instr)
 with_instrs front None = None
 with_instrs front (Some body) = Some (front ++ body)

@@ -1,4 +1,4 @@
--- A function that was read can stand alone.
+-- A function that was read is a program by itself.
 use Rattle.std.proofs.Common.{◌≡◌, ℕ, ◌≤◌, List, [], ◌∷◌, length, true, refl, codes, arith, lit≤}
 use Rattle.std.specs.List.{AllByRecursion}
 use Rattle.guest_text.specs.declared.instr.Op.{Op}

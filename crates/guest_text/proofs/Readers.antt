@@ -9,7 +9,7 @@ use Rattle.std.proofs.lemmas.Slice.Eq.{bytes_eq-Decides}
 use Rattle.prof_base.specs.Text.{is_printable, IsText}
 use Rattle.guest_text.specs.Reading.{Front, onto_text, is_digit, digits_from, checked_text}
 
--- what was read before, and what is still read
+-- what was read before, and what is still to be read
 abbrev pub with_front : List ℕ → Option (Front (List ℕ)) → Option (Front (List ℕ))
 with_front front None = None
 with_front front (Some text) = Some (front ++ text.0, text.1)
@@ -26,12 +26,12 @@ value_by : (t : Bool) (n m : ℕ) (x : Front ℕ) (bytes : List ℕ) → n ≤ m
 value_by true n m x bytes h k = omega arith
 value_by false n m x bytes h k = omega arith
 
--- digits do not lessen the value of those before them
+-- further digits do not make a value smaller
 pub value_grows : (n : ℕ) (bytes : List ℕ) → n ≤ (digits_from n bytes).0
 value_grows n [] = omega arith
 value_grows n (b ∷ bytes) = value_by (is_digit b) n (10 * n + (b - 48)) (digits_from (10 * n + (b - 48)) bytes) (b ∷ bytes) (omega arith) (value_grows (10 * n + (b - 48)) bytes)
 
--- nor does the first one lessen it
+-- nor does the first of them
 pub value_past : (n : ℕ) (bytes : List ℕ) (x : Front ℕ) → 1 ≤ length bytes → is_digit (get_or bytes 0 0) ≡ true → digits_from n bytes ≡ x → 10 * n + (get_or bytes 0 0 - 48) ≤ x.0
 value_past n [] x h d e = absurd (omega arith)
 value_past n (b ∷ bytes) x h d e =

@@ -1,4 +1,4 @@
--- A program that was written is read again.
+-- A program that was written is read back the same.
 use Rattle.std.proofs.Common.{◌≡◌, ◌∙◌, ℕ, zero, suc, ◌-◌, ◌^◌, ◌≤◌, ◌<◌, List, [], ◌∷◌, ◌++◌, length, flat_map, Some, None, Err, Bool, false, ◌==◌, refl, sym, ap, append_assoc, append-nil, length-append, arith, codes, decimal}
 use Rattle.std.specs.List.{AllByRecursion}
 use Rattle.std.proofs.lemmas.Bool.Decides.{nat_tests}
@@ -134,11 +134,11 @@ none_has text h (func ∷ []) p s e =
     let again : func_at text ≡ Some func = ap func_at e ∙ func_again func p s in cc
 none_has text h (func ∷ other ∷ funcs) p s e = s
 
--- what nothing is read from is no text of a program that can be read
+-- a text from which no function is read is not the text of a program that can be read
 none_reads : (text : List ℕ) → func_at text ≡ None → ¬ HasReading text
 none_reads text h reading = none_has text h reading.0 reading.1 reading.2 reading.3
 
--- what a function is read from is the text of no other program that can be read
+-- a text from which a function is read is the text of no other program that can be read
 pub only_reading : (text : List ℕ) (func : Func) → func_at text ≡ Some func → IsOnlyReading text (func ∷ [])
 only_reading text func h [] p s e = absurd s
 only_reading text func h (found ∷ []) p s e =
@@ -147,7 +147,7 @@ only_reading text func h (found ∷ []) p s e =
     ap (λ (f : Func). f ∷ []) same
 only_reading text func h (found ∷ other ∷ funcs) p s e = absurd s
 
--- where the only program is written otherwise, no program that can be read has the text
+-- where the only program that may have the text is written differently, no program that can be read has the text
 pub other_reads : (text canonical : List ℕ) (program : List Func) → IsOnlyReading text program → canonical ≡ program_text program → (text ≡ canonical → ⊥) → ¬ HasReading text
 other_reads text canonical program only c differ r = differ (r.3 ∙ ap program_text (only r.0 r.1 r.2 r.3) ∙ sym c)
 

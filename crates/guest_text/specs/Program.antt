@@ -17,7 +17,7 @@ is_letter b = nat_le 97 b && nat_le b 122
 abbrev pub is_label_byte : ℕ → Bool
 is_label_byte b = is_letter b || (nat_le 48 b && nat_le b 57) || b == 95
 
--- the first byte is there and is a letter
+-- there is a first byte, and it is a letter
 abbrev pub begins_with_letter : List ℕ → Bool
 begins_with_letter [] = false
 begins_with_letter (b ∷ bytes) = is_letter b
@@ -80,7 +80,7 @@ abbrev pub AllDiffer : {A : Type 0} → List A → Type 0
 AllDiffer [] = Unit {0}
 AllDiffer (x ∷ xs) = AllByRecursion (λ y. x ≢ y) xs × AllDiffer xs
 
--- where a function stands in its source, with its name
+-- the name of a function and its place in its source
 abbrev pub entry : Func → List ℕ × List ℕ × ℕ × ℕ × ℕ
 entry func = (func.name, func.url, func.script, func.line, func.column)
 
@@ -89,7 +89,7 @@ abbrev pub label_of : Option Func → List ℕ
 label_of None = []
 label_of (Some func) = func.label
 
--- the label of the function with this number, and no bytes where there is none
+-- the label of the function with this number, or no bytes where there is none
 abbrev pub label_at : List Func → ℕ → List ℕ
 label_at funcs number = label_of (slice_get funcs number)
 

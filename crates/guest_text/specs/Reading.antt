@@ -26,7 +26,7 @@ None >>= next = None
 abbrev pub Front : Type 0 → Type 0
 Front A = A × List ℕ
 
--- what is answered, seen by view, is what reading gives, unless memory ran out
+-- what is answered, seen by view, is what reading gives, unless memory has run out
 abbrev pub Gives : {X Y : Type 0} → (X → Y) → Result X LineFault → Option Y → Type 0
 Gives view (Ok x) read = read ≡ Some (view x)
 Gives view (Err faults.Word) read = read ≡ None
@@ -38,7 +38,7 @@ Reads (Ok x) read = read ≡ Some x
 Reads (Err (refused.At line cause)) read = read ≡ None
 Reads (Err refused.Memory) read = Unit {0}
 
--- the claim holds where a line is at fault
+-- the claim holds if a line is at fault
 abbrev pub IfAt : ProgramRefused → Type 0 → Type 0
 IfAt (refused.At line cause) Claim = Claim
 IfAt refused.Memory Claim = Unit {0}
@@ -53,7 +53,7 @@ behind lead bytes =
 abbrev pub is_digit : ℕ → Bool
 is_digit b = nat_le 48 b && nat_le b 57
 
--- the value of digits of the value n and then those that the bytes begin with, and the bytes after them
+-- the value of digits with the value n and then those that the bytes begin with, and the bytes after them
 abbrev pub digits_from : ℕ → List ℕ → Front ℕ
 digits_from n [] = (n, [])
 digits_from n (b ∷ bytes) = if is_digit b then digits_from (10 * n + (b - 48)) bytes else (n, b ∷ bytes)
@@ -84,7 +84,7 @@ onto_text b (Some text) = Some (b ∷ text.0, text.1)
 abbrev pub is_escapable : ℕ → Bool
 is_escapable b = b == 34 || b == 92
 
--- the bytes up to the `"` that no `\` stands before, where each `\` stands before `"` or `\`; whether one stands before the first byte comes first
+-- the bytes up to the first `"` with no `\` before it, where each `\` is before a `"` or a `\`; the first argument says whether there is a `\` before the first byte
 abbrev pub unquoted : Bool → List ℕ → Option (Front (List ℕ))
 unquoted meant [] = None
 unquoted meant (b ∷ bytes) =
@@ -140,7 +140,7 @@ set_at bytes = do
   rest ← behind (codes "\n") number.1
   Some (Set reg.0 number.0, rest)
 
--- a halt where nothing else has begun
+-- a halt where its word was found, and else a set
 abbrev pub halt_or_set : Option (List ℕ) → List ℕ → Option (Front Op)
 halt_or_set (Some rest) bytes = Some (Halt, rest)
 halt_or_set None bytes = do
@@ -182,13 +182,13 @@ func_at bytes = do
   body ← body_at MAX_BODY head.1
   if ends_in_halt body then Some (func_of head.0 body) else None
 
--- a function that can stand alone
+-- a function that is a program by itself
 pub record IsLone (func : Func) : Type 0 where
   pub fits : IsFunc 1 func
   pub main : func.label ≡ codes "main"
   pub straight : IsStraight (func ∷ [])
 
--- what a line that was read keeps to
+-- the rules that a line that was read keeps
 pub record IsHead (head : Head) : Type 0 where
   pub name : IsText head.name
   pub url : IsText head.url

@@ -34,7 +34,7 @@ pub enum Op {
     Deopt(FuncId, Text),
     /// Bars the function from being optimised, for the reason given.
     NoOpt(FuncId, Text),
-    /// Frees the function's plain code where no frame stands in it.
+    /// Frees the function's plain code if no frame is in it.
     Drop(FuncId),
     /// Compacts the code.
     Gc,
@@ -55,16 +55,16 @@ pub struct Instr {
     pub op: Op,
 }
 
-/// A function. Its name, url, script, line and column together tell it from all others in a
+/// A function. Its name, url, script, line and column together distinguish it from all others in a
 /// profile.
 #[derive(Drop)]
 pub struct Func {
-    /// What calls name it by: a letter from `a` to `z`, then up to 31 of `a` to `z`, `0` to `9`
-    /// and `_`.
+    /// The label that calls name it by: a letter from `a` to `z`, then up to 31 of `a` to `z`, `0`
+    /// to `9` and `_`.
     pub label: Text,
     /// The name that a profile shows.
     pub name: Text,
-    /// The url of the script that it stands in.
+    /// The url of its script.
     pub url: Text,
     /// The number of that script.
     pub script: u32,
@@ -72,7 +72,7 @@ pub struct Func {
     pub line: u32,
     /// The column of that line, from 1 to 1,000,000.
     pub column: u32,
-    /// Whether optimised code of a caller takes the function in.
+    /// Whether the function is inlined into the optimised code of its callers.
     pub inline: bool,
     /// Its instructions, 1 to 4,096.
     pub body: Sequence<Instr>,

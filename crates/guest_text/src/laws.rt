@@ -1,11 +1,11 @@
-// Facts of the types, each the contract of a function that does nothing.
+// Laws of the types. Each function does nothing: its contract is the law.
 ghost use Rattle.std.specs.Prelude.{◌≡◌};
 
 use crate::instr::Func;
 use crate::reg::Reg;
 
-/// The limits that contracts cite by name: the number of the last register, and the length of the
-/// longest body.
+/// States the limits that contracts cite by name: the number of the last register, and the length
+/// of the longest body.
 pub fn limits()
     ensures register { Reg.LAST ≡ 7 }
     ensures body { Func.MAX_BODY ≡ 4096 }

@@ -7,7 +7,7 @@ use crate::refused::LineFault;
 use prof_base::{Text, TextRefused};
 use std::alloc::Global;
 
-// The bytes after `lead`, if the bytes begin with it.
+// Returns the bytes after `lead`, if the bytes begin with it.
 #[tactic(auto, unfolding(crate::specs::Reading::behind))]
 pub(crate) fn behind<'a>(lead: &[u8], bytes: &'a [u8]) -> Option<&'a [u8]>
     ensures { option_map (λ rest. rest.now) result ≡ behind lead.now bytes.now }
@@ -25,7 +25,8 @@ fn is_digit(byte: u8) -> bool
     byte >= b'0' && byte <= b'9'
 }
 
-// The value of digits that have the value `value`, and then `digit`.
+// Returns the value of digits that have the value `value` and are followed by `digit`, if it fits
+// into a u64.
 fn one_more(value: u64, digit: u8) -> Option<u64>
     ensures some { IfSome result (λ n. n ≡ 10 * value + (digit - 48)) }
     ensures none { IfNone result (2 ^ 64 ≤ 10 * value + (digit - 48)) }
@@ -35,7 +36,8 @@ fn one_more(value: u64, digit: u8) -> Option<u64>
         .checked_add(u64::from(digit.saturating_sub(b'0')))
 }
 
-// The value of the digits that the bytes begin with, if it fits into a u64, and the bytes after them.
+// Returns the value of the digits that the bytes begin with, if it fits into a u64, and the bytes
+// after them.
 fn digits(bytes: &[u8]) -> Option<(u64, &[u8])>
     ensures some { IfSome result (λ x. digits_from 0 bytes.now ≡ (x.0, x.1.now)) }
     ensures none { IfNone result (2 ^ 64 ≤ (digits_from 0 bytes.now).0) }
@@ -61,7 +63,7 @@ fn begins_with_digit(bytes: &[u8]) -> bool
     }
 }
 
-// Whether the bytes begin with a digit other than a `0` that another digit follows.
+// Returns whether the bytes begin with a digit other than a `0` that another digit follows.
 fn begins_with_number(bytes: &[u8]) -> bool
     ensures { result ≡ begins_with_number bytes.now }
 {
@@ -71,7 +73,7 @@ fn begins_with_number(bytes: &[u8]) -> bool
     }
 }
 
-// The number that the bytes begin with, if it is in the range, and the bytes after it.
+// Returns the number that the bytes begin with, if it is in the range, and the bytes after it.
 #[tactic(auto, unfolding(crate::specs::Reading::number_at))]
 pub(crate) fn number(bytes: &[u8], least: u64, most: u64) -> Option<(u64, &[u8])>
     ensures number { option_map (λ x. (x.0, x.1.now)) result ≡ number_at least most bytes.now }
@@ -89,7 +91,7 @@ pub(crate) fn number(bytes: &[u8], least: u64, most: u64) -> Option<(u64, &[u8])
     }
 }
 
-// A number after a space.
+// Reads a number after a space.
 #[tactic(auto, unfolding(crate::specs::Reading::word_at))]
 pub(crate) fn number_word(bytes: &[u8], least: u64, most: u64) -> Option<(u64, &[u8])>
     ensures number { option_map (λ x. (x.0, x.1.now)) result ≡ word_at least most bytes.now }
@@ -106,7 +108,7 @@ fn is_escapable(byte: u8) -> bool
     byte == b'"' || byte == b'\\'
 }
 
-// The bytes meant up to the closing `"`, and the bytes after it.
+// Returns the bytes that are meant up to the closing `"`, and the bytes after it.
 fn unquoted(alloc: Global, bytes: &[u8]) -> Result<(Vec<u8>, &[u8]), LineFault>
     ensures { Gives (λ x. (x.0.items, x.1.now)) result (unquoted false bytes.now) }
 {
@@ -145,7 +147,7 @@ fn checked_text(alloc: Global, bytes: &[u8]) -> Result<Text, LineFault>
     }
 }
 
-// The text up to its closing `"`, and the bytes after that.
+// Reads a text up to its closing `"`, and returns it and the bytes after that.
 #[tactic(auto, unfolding(crate::specs::Reading::text_at))]
 fn text(alloc: Global, bytes: &[u8]) -> Result<(Text, &[u8]), LineFault>
     ensures text { Gives (λ x. (x.0, x.1.now)) result (text_at bytes.now) }
@@ -156,7 +158,7 @@ fn text(alloc: Global, bytes: &[u8]) -> Result<(Text, &[u8]), LineFault>
     Ok((text, rest))
 }
 
-// A text in quotes after `lead`, whose last byte is the opening `"`.
+// Reads a text in quotes after `lead`, whose last byte is the opening `"`.
 #[tactic(auto, unfolding(crate::specs::Reading::quoted_at))]
 pub(crate) fn quoted<'a>(
     alloc: Global,

@@ -12,7 +12,7 @@ use std::alloc::Global;
 
 const MOST_LINE: u64 = 1_000_000;
 
-// What the line of a function says, but for its label.
+// What the line of a function says, except its label.
 #[derive(Drop)]
 pub(crate) struct Head {
     pub(crate) name: Text,
@@ -22,7 +22,7 @@ pub(crate) struct Head {
     pub(crate) column: u32,
 }
 
-// Script, line and column.
+// Reads script, line and column.
 #[tactic(auto, unfolding(crate::specs::Reading::places_at))]
 fn places(bytes: &[u8]) -> Option<((u32, u32, u32), &[u8])>
     ensures places { option_map (λ x. (x.0, x.1.now)) result ≡ places_at bytes.now }

@@ -28,7 +28,7 @@ impl Model for Program {
 }
 
 impl Program {
-    // The program of these functions, which begins at the one with this number.
+    // Makes the program of these functions, which begins at the one with this number.
     pub(crate) fn new(functions: Vec<Func>, main_at: u16) -> Program
         requires rules { IsProgram functions.items }
         requires main { IsMain functions.items main_at }
@@ -37,7 +37,7 @@ impl Program {
         Program { functions, main_at }
     }
 
-    /// The functions, numbered by their places.
+    /// Returns the functions, numbered by their places.
     pub fn funcs(&self) -> &[Func]
         ensures functions { result.now ≡ self.now }
         ensures rules { IsProgram self.now }
@@ -45,7 +45,7 @@ impl Program {
         self.functions.as_slice()
     }
 
-    /// The function labelled `main`, where the program begins.
+    /// Returns the function labelled `main`, where the program begins.
     pub fn main(&self) -> FuncId
         ensures main { IsMain self.now result.0 }
         ensures within { result.0 < length self.now }

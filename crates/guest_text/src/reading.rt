@@ -14,7 +14,7 @@ use crate::writing::write_program;
 use prof_base::{Sequence, Text, TextRefused};
 use std::alloc::{AllocError, Global};
 
-// The instructions of the lines, at most `room` of them. The first is line 2.
+// Reads the instructions of the lines, at most `room` of them. The first is line 2.
 fn body(alloc: Global, room: u32, bytes: &[u8]) -> Result<Sequence<Instr>, ProgramRefused>
     requires { room ≤ Func.MAX_BODY }
     ensures body { Reads result (body_at room bytes.now) }
@@ -59,8 +59,8 @@ fn ends_in_halt(body: &[Instr]) -> bool
     }
 }
 
-// The line after the body. After a full body that does not end in `halt` it is the last line of the
-// body, since no line may follow.
+// Returns the number of the line after the body. After a full body that does not end in `halt` it
+// returns that of the last line of the body, since no line may follow.
 fn line_after(body: &[Instr]) -> u32
     requires { length body.now ≤ Func.MAX_BODY }
 {
@@ -82,7 +82,7 @@ fn main_label(alloc: Global) -> Result<Text, AllocError>
     }
 }
 
-// The function with these parts.
+// Makes the function labelled `main` with these parts.
 fn main_func(alloc: Global, head: Head, body: Sequence<Instr>) -> Result<Func, AllocError>
     ensures { IfOk result (λ func. func ≡ func_of head body) }
 {
@@ -131,7 +131,7 @@ fn func(alloc: Global, text: &[u8]) -> Result<Func, ProgramRefused>
     }
 }
 
-// The program of this function.
+// Makes the program of this function.
 fn lone(alloc: Global, func: Func) -> Result<Program, AllocError>
     requires { IsLone func }
     ensures { IfOk result (λ program. program ≡ func ∷ []) }
@@ -141,7 +141,7 @@ fn lone(alloc: Global, func: Func) -> Result<Program, AllocError>
     Ok(Program::new(functions, 0))
 }
 
-// Reads a program. How the text is spelled is not said here.
+// Reads a program. This contract does not say how the text is spelled.
 fn program(alloc: Global, text: &[u8]) -> Result<Program, ProgramRefused>
     ensures straight { IfOk result (λ program. IsStraight program) }
     ensures rules { IfOk result (λ program. IsProgram program) }
@@ -152,7 +152,7 @@ fn program(alloc: Global, text: &[u8]) -> Result<Program, ProgramRefused>
     Ok(lone(alloc, func)?)
 }
 
-// The refusal at the line where a text first differs from the canonical one.
+// Refuses a text at the line where it first differs from the canonical one.
 fn difference(text: &[u8], canonical: &[u8]) -> ProgramRefused {
     let mut line = 1u32;
     for (byte, wanted) in text.iter().zip(canonical.iter()) {
@@ -173,7 +173,7 @@ fn difference(text: &[u8], canonical: &[u8]) -> ProgramRefused {
 }
 
 /// Reads the canonical text of a program with one function, which is not inline and whose
-/// instructions are `set` and `halt`, the last of them `halt`. No other text is read yet.
+/// instructions are `set` and `halt`, the last of them `halt`. It reads no other text yet.
 ///
 /// # Errors
 ///

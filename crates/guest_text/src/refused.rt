@@ -5,9 +5,9 @@ use std::alloc::{AllocError, AllocFailed};
 /// What is wrong with a line of a program's text.
 #[derive(Clone, Copy, Debug, PartialEq, Eq)]
 pub enum ProgramCause {
-    /// A word is missing, is one too many, or is not one that may stand there.
+    /// A word is missing, is one too many, or is not allowed here.
     Word,
-    /// A number should stand there, and the word is none, or is out of range.
+    /// The word is not a number but should be, or the number is out of range.
     Number,
     /// No function has this label.
     UnknownName,

@@ -26,7 +26,7 @@ impl Reg {
     /// The number of the last register.
     pub const LAST: u8 = 7;
 
-    /// The register with this number, from 0 to 7.
+    /// Returns the register with this number, from 0 to 7.
     pub fn new(number: u8) -> Reg
         requires { number ≤ Reg.LAST }
         ensures { result ≡ number }
@@ -34,7 +34,7 @@ impl Reg {
         Reg { number }
     }
 
-    /// The register's number, from 0 to 7.
+    /// Returns the register's number, from 0 to 7.
     pub fn number(self) -> u8
         ensures value { result ≡ self }
         ensures bound { result ≤ Reg.LAST }

@@ -194,8 +194,8 @@ fn put_func(out: &mut Vec<u8>, funcs: &[Func], func: &Func) -> Result<(), AllocE
     put_body(out, funcs, func.body.as_slice())
 }
 
-/// The canonical text of functions, in order, of which each call names one of these. Of a program's
-/// functions it is the program's text.
+/// Writes the canonical text of functions, in order, where each call names one of these. For the
+/// functions of a program this is the program's text.
 pub fn write_functions(alloc: Global, funcs: &[Func]) -> Result<Vec<u8>, Memory>
     ensures { IfOk result (λ text. text.items ≡ program_text funcs.now) }
 {
@@ -206,7 +206,7 @@ pub fn write_functions(alloc: Global, funcs: &[Func]) -> Result<Vec<u8>, Memory>
     Ok(out)
 }
 
-/// The program's canonical text: one space between words, no line that is passed over, and byte 10
+/// Writes the program's canonical text: one space between words, no ignored lines, and byte 10
 /// after each line.
 pub fn write_program(alloc: Global, program: &Program) -> Result<Vec<u8>, Memory>
     ensures { IfOk result (λ text. text.items ≡ program_text program.now) }

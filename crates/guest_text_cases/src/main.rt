@@ -1,5 +1,5 @@
-//! Prints what `read_program` answers for each text in the file `cases`, whose first lines say how the
-//! texts are written down.
+//! Prints what `read_program` answers for each text in the file `cases`, whose first lines say how
+//! the texts are written there.
 #![tactic(auto)]
 
 use guest_text::{Program, ProgramCause, ProgramRefused, read_program, write_program};
@@ -50,7 +50,7 @@ fn answer(alloc: Global, text: &[u8]) -> Result<String, io::Error> {
     }
 }
 
-// Adds the lines that `count` and a line, with a space between, stand for.
+// Adds the lines that `count` and a line, with a space between, mean.
 fn put_copies(text: &mut String, copies: &str) -> Result<(), io::Error> {
     if let Some((count, line)) = copies.split_once(' ') {
         for _ in 0..count.parse::<u32>().unwrap_or(0) {
@@ -61,7 +61,7 @@ fn put_copies(text: &mut String, copies: &str) -> Result<(), io::Error> {
     Ok(())
 }
 
-// Adds what a line of a case stands for.
+// Adds the text that a line of a case means.
 fn put_line(text: &mut String, line: &str) -> Result<(), io::Error> {
     if let Some(copies) = line.strip_prefix('*') {
         put_copies(text, copies)

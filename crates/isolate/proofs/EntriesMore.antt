@@ -1,4 +1,4 @@
--- One entry more: the sessions after it, and what is seen of it.
+-- One more entry: the sessions after it, and what is seen of it.
 use Rattle.std.proofs.Common.{◌≡◌, ℕ, ◌-◌, List, [], ◌∷◌, ◌++◌, length, take, refl, ap, ◌∙◌}
 use Rattle.std.proofs.lemmas.List.{append_assoc, append-nil}
 use Rattle.std.proofs.Math.Seq.{take-append_seam}
@@ -15,7 +15,7 @@ pub course_on-push : (course : Course) (entries : List ScheduleEntry) (next : Sc
 course_on-push course [] next = refl
 course_on-push course (entry ∷ entries) next = course_on-push (course_after course entry.what) entries next
 
--- the parts of what is seen, grouped as the induction has them and as the law says them
+-- the parts of what is seen, grouped as in the induction and as in the law
 regroup : (before rest waits own : List Seen) → before ++ (rest ++ waits ++ own) ≡ before ++ rest ++ waits ++ own
 regroup before rest waits own = simp append_assoc
 

@@ -78,7 +78,7 @@ contains_number running one h = contains_from_has (sessions running) one.session
 
 -- ---- the ticks of deoptimisations
 
--- what a tick leaves true, they leave true
+-- what remains true after a tick remains true after them
 over_given_up : (P : List Seen → Type 0) → ((tick : ResolvedTick) (seen : List Seen) → P seen → P (ticked tick ∷ seen))
     → (funcs : List Func) (time step more : ℕ) (rest : List Seen) → P rest → P (given_up funcs time step more ++ rest)
 over_given_up P ticks funcs time step zero rest holds = holds
@@ -95,7 +95,7 @@ over_ticks P ticks (first ∷ running) funcs time step more rest holds = over_gi
 
 -- ---- the sessions that end
 
--- what an entry ends, before what ends later; after an end that is nothing
+-- the sessions that an entry ends are before those that end later, of which there are none after an end
 entry_ends : (funcs : List Func) (base : ℕ) (course : Course) (step time : ℕ) (what : What) (rest : List Seen) (later : List ℕ) → AreNumbered course → (is_end what ≡ true → later ≡ [])
     → ends_behind (sessions (course_after course what).running) rest ≡ later
     → ends_behind (sessions course.running) (seen_of funcs base course step time what ++ rest) ≡ ended_by course what ++ later

@@ -12,21 +12,21 @@ use Rattle.record_text.specs.declared.schedule.What.TheVariants.{Sampled, Stop, 
 use Rattle.record_text.specs.declared.schedule.ScheduleEntry.{ScheduleEntry}
 use Rattle.isolate.specs.PlainFile.{given_up_for, leaves_files, plain_file, plain_files, seen_of, seen_on, tick_at}
 
--- the step of the last of these entries, this one where there is none
+-- the step of the last of these entries, or this step where there are none
 abbrev pub step_behind : ℕ → List ScheduleEntry → ℕ
 step_behind step [] = step
 step_behind step (entry ∷ entries) = step_behind entry.step entries
 
--- the time of the last of these entries, this one where there is none
+-- the time of the last of these entries, or this time where there are none
 abbrev pub time_behind : ℕ → List ScheduleEntry → ℕ
 time_behind time [] = time
 time_behind time (entry ∷ entries) = time_behind entry.time entries
 
--- the step of the last of these entries, 0 where there is none
+-- the step of the last of these entries, or 0 where there are none
 abbrev pub last_step : List ScheduleEntry → ℕ
 last_step entries = step_behind 0 entries
 
--- the time of the last of these entries, 0 where there is none
+-- the time of the last of these entries, or 0 where there are none
 abbrev pub last_time : List ScheduleEntry → ℕ
 last_time entries = time_behind 0 entries
 
@@ -41,14 +41,14 @@ EntriesAddWhatIsSeen =
     → seen_on funcs base (entries ++ next ∷ [])
     ≡ seen_on funcs base entries ++ given_up_until funcs entries next.step ++ seen_of funcs base (course_on none_yet entries) next.step next.time next.what
 
--- a sample is seen as a hit of the source interval at that place of the schedule
+-- a sample is seen as a hit, with the source interval at that place of the schedule
 abbrev pub SamplesHaveTheSourceInterval : Type 0
 SamplesHaveTheSourceInterval =
     (funcs : List Func) (schedule : ScheduleParts) (before after : List ScheduleEntry) (entry : ScheduleEntry) → schedule.entries ≡ before ++ entry ∷ after → entry.what ≡ Sampled
     → seen_on funcs schedule.base (before ++ entry ∷ [])
     ≡ seen_on funcs schedule.base before ++ given_up_until funcs before entry.step ++ tick_at funcs entry.step entry.time (source_after schedule (length before)) true None ∷ []
 
--- the sessions that an entry ends: the one that is stopped; at the end those that run, by rising number, unless memory cut the run short
+-- the sessions that an entry ends: the one that is stopped; at the end those that run, in the order of their numbers, unless the run ended out of memory
 abbrev pub ended_by : Course → What → List ℕ
 ended_by course (Stop port number) = number.0 ∷ []
 ended_by course (End cause) = if leaves_files cause then map (λ running. running.session) course.running else []
@@ -59,11 +59,11 @@ abbrev pub ended_on : Course → List ScheduleEntry → List ℕ
 ended_on course [] = []
 ended_on course (entry ∷ entries) = ended_by course entry.what ++ ended_on (course_after course entry.what) entries
 
--- in a legal schedule each session that is stopped, or that the end finishes with files, has its file, in that order, and no other has one
+-- in a legal schedule each session that is stopped, or that the end finishes with files, has its file, in that order, and no other session has one
 abbrev pub EachEndHasAFile : Type 0
 EachEndHasAFile = (funcs : List Func) (schedule : ScheduleParts) → IsLegalSchedule schedule → sessions_of (plain_files funcs schedule) ≡ ended_on none_yet schedule.entries
 
--- each of the files is its session's
+-- each file is that of its session
 abbrev pub FilesAreTheirSessions : Type 0
 FilesAreTheirSessions =
     (funcs : List Func) (schedule : ScheduleParts) (file : SessionFile) → Contains (plain_files funcs schedule) file → plain_file funcs schedule (session file.session) ≡ Some file.text

@@ -1,8 +1,8 @@
 //! Laws of runs. Each function does nothing: its contract is the law.
 ghost use Rattle.isolate.specs.RunLaws.{EachEndHasAFile, EntriesAddWhatIsSeen, FilesAreTheirSessions, SamplesHaveTheSourceInterval};
 
-/// Each entry of a schedule adds what is seen of it. A sample is seen with the source interval of the
-/// sessions that run at its place.
+/// Each entry of a schedule adds what is seen of it, after the deoptimisations since the entry
+/// before it. A sample is seen with the source interval of the sessions that run at its place.
 pub fn entries_add_what_is_seen()
     ensures entries { EntriesAddWhatIsSeen }
     ensures interval { SamplesHaveTheSourceInterval }

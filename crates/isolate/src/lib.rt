@@ -1,5 +1,5 @@
 //! An isolate: a guest machine with its recordings. The definitions say which schedules a guest's
-//! program comes to, and what the files of a run are.
+//! program reaches, and what the files of a run are.
 #![tactic(auto)]
 
 pub mod examples;

@@ -7,6 +7,6 @@ abbrev pub last_chunk : ℕ → List ℕ
 last_chunk zero = []
 last_chunk (suc n) = suc n ∷ []
 
--- as many chunks of `size` bytes as there are in this many bytes, and then one of what is left
+-- the sizes of the chunks that this many bytes are cut into: whole chunks of `size` bytes, and then one of what is left
 unfoldable pub cut : ℕ → ℕ → List ℕ
 cut size bytes = repeat (bytes / size) (size ∷ []) ++ last_chunk (bytes % size)

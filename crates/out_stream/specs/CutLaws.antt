@@ -1,4 +1,4 @@
--- What a cut is, in three laws; no other list meets them.
+-- What a cut is, in four laws; no other list meets them all.
 use Rattle.std.specs.Prelude.{ℕ, ◌≡◌, ◌+◌, ◌<◌, ◌≤◌, length, slice_index, sum}
 use Rattle.out_stream.specs.Cut.{cut}
 

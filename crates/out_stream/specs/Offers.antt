@@ -1,11 +1,11 @@
--- What a stream was offered, in order. Where that cannot be observed, each equation says only that this stays so.
+-- What a stream was offered, in order. Where that cannot be observed, each equation says only that it cannot be observed afterwards.
 use Rattle.std.specs.Prelude.{ℕ, List, [], ◌∷◌, ◌++◌, map, Option, option_map}
 use Rattle.out_stream.specs.declared.stream.Chunk.{Chunk}
 use Rattle.out_stream.specs.declared.stream.Chunk.TheVariants.{Continue, Abort, Failed, Memory}
 use Rattle.out_stream.specs.declared.stream.Offer.{Offer}
 use Rattle.out_stream.specs.declared.stream.Offer.TheVariants.{Bytes, End}
 
--- these offers came next
+-- these offers were made next
 abbrev pub followed : Option (List Offer) → List Offer → Option (List Offer)
 followed offers more = option_map (λ before. before ++ more) offers
 

@@ -1,4 +1,4 @@
--- The parts of a stream: the closed ones, and the unfinished one. Where they cannot be observed, each equation says only that this stays so.
+-- The parts of a stream: the closed ones, and the unfinished one. Where they cannot be observed, each equation says only that they cannot be observed afterwards.
 use Rattle.std.specs.Prelude.{ℕ, ◌≡◌, List, [], ◌∷◌, ◌++◌, Option, option_map}
 use Rattle.prof_base.specs.Prefix.{IsPrefix}
 

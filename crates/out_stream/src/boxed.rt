@@ -1,4 +1,4 @@
-// The stream in a box, so that what is generic over a stream takes it too.
+// A boxed stream is a stream, so that code that is generic over a stream takes it too.
 use crate::stream::{Chunk, OutputStream};
 use std::alloc::Global;
 

@@ -27,11 +27,11 @@ pub fn deliver(
         Stopped why (cut (chunk_bytes stream.old) (length bytes.now)) bytes.now
         (parts stream.old) (parts stream.new) (offers stream.old) (offers stream.new)) }
 
-    // An abort and a fault have their counts.
+    // Each abort and each fault is counted.
     ensures aborted { IsErrOf result Undelivered.Aborted → Rose (aborts stream.old) (aborts stream.new) }
     ensures failed { IsErrOf result Undelivered.Failed → Rose (stream_faults stream.old) (stream_faults stream.new) }
 
-    // A count changes at its own answer only.
+    // A count changes only at its own answer.
     ensures no_abort { OnOk result (aborts stream.new ≡ aborts stream.old) }
     ensures no_fault { OnOk result (stream_faults stream.new ≡ stream_faults stream.old) }
     ensures aborted_only { IsErrOf result Undelivered.Aborted → stream_faults stream.new ≡ stream_faults stream.old }
@@ -39,7 +39,7 @@ pub fn deliver(
     ensures memory_aborts { IsErrOf result Undelivered.Memory → aborts stream.new ≡ aborts stream.old }
     ensures memory_faults { IsErrOf result Undelivered.Memory → stream_faults stream.new ≡ stream_faults stream.old }
 
-    // The size stays, and no count falls.
+    // The size stays the same, and no count falls.
     ensures size { chunk_bytes stream.new ≡ chunk_bytes stream.old }
     ensures aborts { aborts stream.old ≤ aborts stream.new }
     ensures faults { stream_faults stream.old ≤ stream_faults stream.new }

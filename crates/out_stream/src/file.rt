@@ -11,9 +11,10 @@ use std::{fs, io};
 /// The size of a chunk, in bytes.
 const CHUNK: u32 = 65_536;
 
-/// Writes each part to a file of its own in the folder in which the program runs: part K of stream I
-/// to `cpuprof-I-K.cpuprofile`, K from 1. A file of that name is written over. A file is made with the
-/// first bytes of its part: a stream that got nothing makes none. Each chunk is flushed.
+/// Writes each part to a file of its own in the folder in which the program runs: part K of stream
+/// I to `cpuprof-I-K.cpuprofile`, K from 1. It overwrites a file of that name. It creates a file
+/// with the first bytes of its part, so a stream that got nothing creates none. Each chunk is
+/// flushed.
 #[derive(Drop)]
 pub struct FileStream<R: Files + Drop> {
     rt: R,
@@ -24,7 +25,7 @@ pub struct FileStream<R: Files + Drop> {
 }
 
 impl<R: Files + Drop> FileStream<R> {
-    /// The stream with this number. It opens nothing and takes no memory.
+    /// Makes the stream with this number. It opens nothing and allocates nothing.
     pub fn new(rt: R, number: u8) -> FileStream<R>
         ensures parts { ⟦<FileStream<R> as OutputStream>⟧.parts result ≡ None }
         ensures offers { ⟦<FileStream<R> as OutputStream>⟧.offers result ≡ None }
@@ -42,7 +43,7 @@ impl<R: Files + Drop> FileStream<R> {
     }
 }
 
-// The name of the file of this part.
+// Returns the name of the file of this part.
 fn part_name(alloc: Global, number: u8, part: u64) -> Result<String, AllocError>
     ensures { IfOk result (λ name. string_bytes name ≡ part_name number part) }
 {

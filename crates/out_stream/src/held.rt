@@ -6,8 +6,8 @@ use prof_base::Memory;
 use std::alloc::Global;
 use std::mem;
 
-// The parts, and what was offered. Where a part is unfinished there is room to close it and to keep
-// that it ended.
+// The parts, and what was offered. While a part is unfinished, there is room to close it and to
+// record its end.
 #[derive(Drop)]
 pub(crate) struct Held {
     alloc: Global,
@@ -19,7 +19,7 @@ pub(crate) struct Held {
 }
 
 impl Held {
-    // Nothing. It takes no memory.
+    // Makes one that holds nothing. It allocates nothing.
     pub(crate) fn new(alloc: Global) -> Held
         ensures closed { result.closed.items ≡ [] }
         ensures unfinished { result.unfinished.items ≡ [] }
@@ -51,8 +51,8 @@ impl Held {
         &self.offers
     }
 
-    // Appends the chunk, which gets this answer. All room is made first, also for the end of the
-    // part, which cannot answer that memory was refused.
+    // Appends the chunk, which gets this answer. It makes all room first, also for the end of the
+    // part, which cannot answer that it is out of memory.
     pub(crate) fn take(&mut self, chunk: &[u8], answer: Chunk) -> Result<(), Memory>
         ensures closed { self.new.closed.items ≡ self.old.closed.items }
         ensures unfinished { OnOk result (self.new.unfinished.items ≡ self.old.unfinished.items ++ chunk.now) }
@@ -68,7 +68,8 @@ impl Held {
         Ok(())
     }
 
-    // Keeps that a chunk of `count` bytes was offered, and its answer. It is not taken.
+    // Records that a chunk of `count` bytes was offered, and its answer. It does not take the
+    // chunk.
     pub(crate) fn refuse(&mut self, count: usize, answer: Chunk) -> Result<(), Memory>
         ensures closed { self.new.closed.items ≡ self.old.closed.items }
         ensures unfinished { self.new.unfinished.items ≡ self.old.unfinished.items }

@@ -1,8 +1,8 @@
 //! The stream that finished files go to, part by part, each part in chunks; and the delivery of a
 //! file to it.
 //!
-//! A stream answers Abort or Failed only where its own count of these rose in the call. What a
-//! stream holds and was offered is optional in contracts: of the real one it cannot be observed.
+//! A stream answers Abort or Failed only if its own count of these rose in the call. What a stream
+//! holds and was offered is optional in contracts: for the real stream it cannot be observed.
 #![tactic(auto)]
 
 mod boxed;

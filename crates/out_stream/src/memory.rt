@@ -5,7 +5,7 @@ use crate::held::Held;
 use crate::stream::{Chunk, Offer, OutputStream};
 use std::alloc::Global;
 
-/// Parts in memory. It neither fails nor aborts.
+/// A stream in memory that neither fails nor aborts.
 #[derive(Drop)]
 pub struct SureStream {
     held: Held,
@@ -15,7 +15,7 @@ pub struct SureStream {
 }
 
 impl SureStream {
-    /// A stream with no part, of this size of chunks, in bytes. It takes no memory.
+    /// Makes a stream with no part and with this size of chunks, in bytes. It allocates nothing.
     pub fn new(alloc: Global, chunk: u32) -> SureStream
         requires low { 1 ≤ chunk }
         requires high { chunk ≤ 65536 }
@@ -31,21 +31,21 @@ impl SureStream {
         }
     }
 
-    /// The closed parts in order.
+    /// Returns the closed parts in order.
     pub fn closed_parts(&self) -> &[Vec<u8>]
         ensures { option_map (λ p. p.0) (⟦<SureStream as OutputStream>⟧.parts self.now) ≡ Some (map (λ part. part.items) result.now) }
     {
         self.held.closed_parts()
     }
 
-    /// The bytes of the unfinished part.
+    /// Returns the bytes of the unfinished part.
     pub fn unfinished_part(&self) -> &[u8]
         ensures { option_map (λ p. p.1) (⟦<SureStream as OutputStream>⟧.parts self.now) ≡ Some result.now }
     {
         self.held.unfinished_part()
     }
 
-    /// What the stream was offered, in order.
+    /// Returns what the stream was offered, in order.
     pub fn offers(&self) -> &[Offer]
         ensures { ⟦<SureStream as OutputStream>⟧.offers self.now ≡ Some result.now }
     {
@@ -80,7 +80,7 @@ impl OutputStream for SureStream {
     }
 }
 
-/// Parts in memory, whose chunks fail or abort at chosen calls.
+/// A stream in memory that fails or aborts at chosen calls.
 #[derive(Drop)]
 pub struct MemoryStream {
     held: Held,
@@ -95,9 +95,10 @@ pub struct MemoryStream {
 }
 
 impl MemoryStream {
-    /// A stream with no part, of this size of chunks, in bytes. The calls of `write_chunk` whose
-    /// numbers are in `failing` fail, and else those in `aborting` abort; the first call has number
-    /// 1, and a call that memory refuses has none. It takes no memory.
+    /// Makes a stream with no part and with this size of chunks, in bytes. The calls of
+    /// `write_chunk` whose numbers are in `failing` fail, and of the others those in `aborting`
+    /// abort; the first call has number 1, and a call that runs out of memory has none. It
+    /// allocates nothing.
     pub fn new(alloc: Global, chunk: u32, failing: Vec<u64>, aborting: Vec<u64>) -> MemoryStream
         requires low { 1 ≤ chunk }
         requires high { chunk ≤ 65536 }
@@ -118,21 +119,21 @@ impl MemoryStream {
         }
     }
 
-    /// The closed parts in order.
+    /// Returns the closed parts in order.
     pub fn closed_parts(&self) -> &[Vec<u8>]
         ensures { option_map (λ p. p.0) (⟦<MemoryStream as OutputStream>⟧.parts self.now) ≡ Some (map (λ part. part.items) result.now) }
     {
         self.held.closed_parts()
     }
 
-    /// The bytes of the unfinished part.
+    /// Returns the bytes of the unfinished part.
     pub fn unfinished_part(&self) -> &[u8]
         ensures { option_map (λ p. p.1) (⟦<MemoryStream as OutputStream>⟧.parts self.now) ≡ Some result.now }
     {
         self.held.unfinished_part()
     }
 
-    /// What the stream was offered, in order.
+    /// Returns what the stream was offered, in order.
     pub fn offers(&self) -> &[Offer]
         ensures { ⟦<MemoryStream as OutputStream>⟧.offers self.now ≡ Some result.now }
     {

@@ -17,7 +17,7 @@ pub enum Chunk {
     Abort,
     /// The chunk was not taken: the stream failed.
     Failed,
-    /// The chunk was not taken: memory was refused.
+    /// The chunk was not taken: out of memory.
     Memory,
 }
 
@@ -37,7 +37,7 @@ pub enum Undelivered {
     Aborted,
     /// The stream failed.
     Failed,
-    /// Memory was refused.
+    /// Out of memory.
     Memory,
 }
 
@@ -62,7 +62,7 @@ pub trait OutputStream: Drop {
     /// The size in bytes of a chunk that is not the last of its part.
     ghost chunk_bytes: { Self → ℕ };
 
-    /// The size in bytes of a chunk that is not the last of its part. It stays.
+    /// Returns the size in bytes of a chunk that is not the last of its part. It never changes.
     fn chunk_size(&self) -> u32
         ensures size { result ≡ chunk_bytes self.now }
         ensures low { 1 ≤ result }
@@ -78,11 +78,11 @@ pub trait OutputStream: Drop {
         ensures memory { result ≡ Chunk.Memory → parts self.new ≡ parts self.old }
         ensures offers { offers self.new ≡ offered (offers self.old) (length chunk.now) result }
 
-        // An abort and a fault have their counts.
+        // Each abort and each fault is counted.
         ensures abort_cause { result ≡ Chunk.Abort → Rose (aborts self.old) (aborts self.new) }
         ensures fault_cause { result ≡ Chunk.Failed → Rose (stream_faults self.old) (stream_faults self.new) }
 
-        // A count changes at its own answer only.
+        // A count changes only at its own answer.
         ensures no_abort { result ≡ Chunk.Continue → aborts self.new ≡ aborts self.old }
         ensures no_fault { result ≡ Chunk.Continue → stream_faults self.new ≡ stream_faults self.old }
         ensures abort_only { result ≡ Chunk.Abort → stream_faults self.new ≡ stream_faults self.old }
@@ -90,12 +90,12 @@ pub trait OutputStream: Drop {
         ensures memory_aborts { result ≡ Chunk.Memory → aborts self.new ≡ aborts self.old }
         ensures memory_faults { result ≡ Chunk.Memory → stream_faults self.new ≡ stream_faults self.old }
 
-        // The size stays, and no count falls.
+        // The size stays the same, and no count falls.
         ensures size { chunk_bytes self.new ≡ chunk_bytes self.old }
         ensures aborts { aborts self.old ≤ aborts self.new }
         ensures faults { stream_faults self.old ≤ stream_faults self.new };
 
-    /// Closes the unfinished part. It takes no memory.
+    /// Closes the unfinished part. It allocates nothing.
     fn end_of_stream(&mut self)
         requires { IfSome (parts self.old) (λ p. 0 < length p.1) }
         ensures parts { parts self.new ≡ closed (parts self.old) }
@@ -105,8 +105,8 @@ pub trait OutputStream: Drop {
         ensures faults { stream_faults self.new ≡ stream_faults self.old };
 
     /// Delivers the bytes as one part, which is closed after the last of them. They are cut into
-    /// chunks of the stream's size, the last perhaps shorter. At the first answer that is not
-    /// Continue nothing more is called. An implementation leaves this as it stands.
+    /// chunks of the stream's size, of which the last may be shorter. Nothing more is called after
+    /// the first answer that is not Continue. Implementations do not override this.
     fn deliver_part(&mut self, alloc: Global, bytes: &[u8]) -> Result<(), Undelivered>
         requires { 0 < length bytes.now }
         ensures ok { OnOk result (parts self.new ≡ closed (grown (parts self.old) bytes.now)) }
@@ -119,11 +119,11 @@ pub trait OutputStream: Drop {
             Stopped why (cut (chunk_bytes self.old) (length bytes.now)) bytes.now
             (parts self.old) (parts self.new) (offers self.old) (offers self.new)) }
 
-        // An abort and a fault have their counts.
+        // Each abort and each fault is counted.
         ensures aborted { IsErrOf result Undelivered.Aborted → Rose (aborts self.old) (aborts self.new) }
         ensures failed { IsErrOf result Undelivered.Failed → Rose (stream_faults self.old) (stream_faults self.new) }
 
-        // A count changes at its own answer only.
+        // A count changes only at its own answer.
         ensures no_abort { OnOk result (aborts self.new ≡ aborts self.old) }
         ensures no_fault { OnOk result (stream_faults self.new ≡ stream_faults self.old) }
         ensures aborted_only { IsErrOf result Undelivered.Aborted → stream_faults self.new ≡ stream_faults self.old }
@@ -131,7 +131,7 @@ pub trait OutputStream: Drop {
         ensures memory_aborts { IsErrOf result Undelivered.Memory → aborts self.new ≡ aborts self.old }
         ensures memory_faults { IsErrOf result Undelivered.Memory → stream_faults self.new ≡ stream_faults self.old }
 
-        // The size stays, and no count falls.
+        // The size stays the same, and no count falls.
         ensures size { chunk_bytes self.new ≡ chunk_bytes self.old }
         ensures aborts { aborts self.old ≤ aborts self.new }
         ensures faults { stream_faults self.old ≤ stream_faults self.new }

@@ -24,7 +24,7 @@ pub(crate) fn deliver_twice<S: OutputStream>(
     stream.deliver_part(alloc, bytes)
 }
 
-// A stream that never fails answers neither.
+// Delivers twice to a stream that never fails, which therefore answers neither fault.
 pub(crate) fn deliver_twice_surely(
     alloc: Global,
     stream: &mut SureStream,
@@ -43,7 +43,7 @@ pub(crate) struct Delivered {
     pub(crate) stream: Box<dyn OutputStream + Send>,
 }
 
-// A boxed stream that is lent as an object and handed back.
+// Delivers to a boxed stream that is lent as an object, and hands it back.
 pub(crate) fn deliver_boxed(
     alloc: Global,
     mut stream: Box<dyn OutputStream + Send>,
@@ -60,7 +60,7 @@ pub(crate) fn deliver_boxed(
     Delivered { result, stream }
 }
 
-// The same through the bound.
+// Does the same through the bound.
 pub(crate) fn deliver_box(
     alloc: Global,
     mut stream: Box<dyn OutputStream + Send>,

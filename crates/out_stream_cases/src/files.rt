@@ -1,4 +1,4 @@
-// The files of a stream that writes them: two parts, and none before them or after.
+// The files of a stream that writes them: two parts, with none before or after them.
 use crate::bounds::{Delivered, deliver_box, deliver_boxed};
 use crate::input::delivered;
 use crate::streams::{answer_word, part_line};
@@ -8,7 +8,7 @@ use std::io::Read;
 use std::rt::Files;
 use std::{fs, io};
 
-// The file of a part, which is then removed.
+// Prints the file of a part, and removes it.
 fn file_line<R: Files>(rt: &R, alloc: Global, name: &str) -> Result<String, io::Error> {
     let Ok(mut file) = fs::open(rt, name) else {
         return Ok(format!(in alloc; "{name} is not there\n")?);

@@ -2,7 +2,7 @@
 use std::alloc::Global;
 use std::io;
 
-// The numbers of the lines that begin with this word.
+// Reads the numbers of the lines that begin with this word.
 pub(crate) fn calls(alloc: Global, lines: &str, word: &str) -> Result<Vec<u64>, io::Error> {
     let mut calls = Vec::new(alloc);
     for line in lines.lines() {
@@ -15,7 +15,7 @@ pub(crate) fn calls(alloc: Global, lines: &str, word: &str) -> Result<Vec<u64>, 
     Ok(calls)
 }
 
-// The bytes of a line that delivers some.
+// Reads the bytes of a line that delivers some.
 pub(crate) fn delivered(alloc: Global, line: &str) -> Result<Vec<u8>, io::Error> {
     if let Some(bytes) = line.strip_prefix("deliver ") {
         return Ok(bytes.as_bytes().to_vec(alloc)?);

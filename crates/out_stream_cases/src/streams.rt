@@ -40,7 +40,7 @@ fn offers_line(alloc: Global, offers: &[Offer]) -> Result<String, io::Error> {
     Ok(text)
 }
 
-// The bytes, or how many there are where they are many.
+// Prints the bytes, or how many there are if there are more than 40.
 pub(crate) fn part_line(alloc: Global, word: &str, bytes: &[u8]) -> Result<String, io::Error> {
     let length = bytes.len();
     if length > 40 {
@@ -98,7 +98,7 @@ pub(crate) fn answers(alloc: Global, size: u32, lines: &str) -> Result<String, i
     Ok(text)
 }
 
-// Each of the bytes is delivered twice.
+// Delivers the bytes of each line twice.
 pub(crate) fn sure_answers(alloc: Global, size: u32, lines: &str) -> Result<String, io::Error>
     requires low { 1 ≤ size }
     requires high { size ≤ 65536 }

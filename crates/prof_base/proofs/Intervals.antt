@@ -11,7 +11,7 @@ use Rattle.prof_base.specs.declared.interval.TheConstants.{MAX_ROUNDED}
 le_or_lt : (m n : ℕ) → (m ≤ n) ⊎ (n < m)
 le_or_lt m n = grind arith
 
--- of two multiples that lie less than the base apart, the one that may be greater is not
+-- a multiple of the base that is less than the base above another multiple is at most that one
 multiple_below : (base r n : ℕ) → base ∣ r → base ∣ n → 0 < base → r < n + base → r ≤ n
 multiple_below base r n h k some near = elim (le_or_lt r n) [
   | inl le ↦ le
@@ -35,7 +35,7 @@ rounded_is_least base interval low =
       least = λ n h reaches some. least_of base (div_ceil interval base) interval n near.1 h reaches some low;
     }
 
--- a number that is the rounded interval is the least that serves
+-- `rounded_of` gives the least multiple of the base that is at least the interval and the base
 pub rounded_least : (base interval r : ℕ) → 1 ≤ base → r ≡ rounded_of base interval → IsRounded base interval r
 rounded_least base interval r low e = subst (IsRounded base interval) (sym e) (rounded_is_least base interval low)
 
@@ -51,18 +51,18 @@ divided_one_more : (base d i : ℕ) (intervals : List ℕ) → DividesEach base 
 divided_one_more base d i [] all = (tt, all.0)
 divided_one_more base d i (j ∷ js) all = let rest = divided_one_more base d i js all.1 in ((all.0, rest.0), rest.1)
 
--- one interval more
+-- the source interval after one more interval
 source_of_more : (base i source next : ℕ) (intervals : List ℕ) → IsSourceInterval base intervals source → IsGcd source (rounded_of base i) next → IsSourceInterval base (intervals ++ i ∷ []) next
 source_of_more base i source next intervals s g = record {
   common = divides_one_more base next i intervals (divides_all base next source intervals g.0 s.common) g.1;
   greatest = λ d h. let parts = divided_one_more base d i intervals h in g.2 d (s.greatest d parts.0) parts.1;
 }
 
--- the common divisor is no greater than the interval that has come
+-- a common divisor with a rounded interval is at most MAX_ROUNDED
 pub source_stays_small : (source r next : ℕ) → IsGcd source r next → 0 < r → r ≤ MAX_ROUNDED → next ≤ MAX_ROUNDED
 source_stays_small source r next g some small = omega (arith, le_of_dvd some g.1)
 
--- the next of the intervals has come
+-- the source interval of the first i + 1 intervals, from that of the first i
 pub source_of_next : (base i source r next : ℕ) (intervals : List ℕ) → i < length intervals → IsSourceInterval base (take i intervals) source → IsGcd source r next → r ≡ rounded_of base (get_or intervals i 0) → IsSourceInterval base (take (i + 1) intervals) next
 source_of_next base i source r next intervals within s g e =
     let P : List ℕ → Type 0 = λ prefix. IsSourceInterval base prefix next in

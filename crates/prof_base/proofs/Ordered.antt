@@ -13,13 +13,13 @@ use Rattle.std.proofs.lemmas.List.Quantifiers.{position-Some}
 use Rattle.std.proofs.lemmas.List.Sums.{sum_by-cons, count_by-le-length, fails_before_first}
 use Rattle.prof_base.specs.Ordered.{insert_sorted, stops, AllAfter, Rises, before, place, numbers_from}
 
--- one of three lists, by an order
+-- a claim about one of three lists, which a comparison chooses
 by_order : {K : Type 0} (P : List K → Type 0) (r : Ordering) (a b c : List K) → (r ≡ Less → P a) → (r ≡ Equal → P b) → (r ≡ Greater → P c) → P (cond (is_lt r) a (cond (is_eq r) b c))
 by_order P Less a b c p q s = p refl
 by_order P Equal a b c p q s = q refl
 by_order P Greater a b c p q s = s refl
 
--- it is among them, by recursion
+-- an element is in a list, by recursion
 abbrev pub Has : {K : Type 0} → List K → K → Type 0
 Has [] x = ⊥
 Has (y ∷ ys) x = (y ≡ x) ⊎ Has ys x
@@ -82,31 +82,31 @@ module _ {K : Type 0} (R : K → K → Ordering) where
       let no = passed x y (f 0 (omega arith)) in
       rw (no.0, no.1) (ap (λ zs. y ∷ zs) (last_of x ys d (λ k l. f (suc k) (omega arith))))
 
-  -- the search ends at an equal one
+  -- the search ends at an equal element
   pub insert_sorted-same : (x : K) (ys : List K) (i : ℕ) (d : K) → position (stops R x) ys ≡ Some i → is_eq (R x (get_or ys i d)) ≡ true → insert_sorted R x ys ≡ ys
   insert_sorted-same x ys i d e s =
       let found = position-Some (stops R x) ys i d e in
       same_at x ys i d found.0 s found.2
 
-  -- the search ends at a greater one
+  -- the search ends at a greater element
   pub insert_sorted-insert : (x : K) (ys : List K) (i : ℕ) (d : K) → position (stops R x) ys ≡ Some i → is_eq (R x (get_or ys i d)) ≡ false → insert_sorted R x ys ≡ insert ys i x
   insert_sorted-insert x ys i d e s =
       let found = position-Some (stops R x) ys i d e in
       inserted_at x ys i d found.0 (or-left (is_lt (R x (get_or ys i d))) (is_eq (R x (get_or ys i d))) found.1 s) found.2
 
-  -- the search ends nowhere
+  -- the search finds no place
   pub insert_sorted-last : (x : K) (ys : List K) (d : K) → position (stops R x) ys ≡ None → insert_sorted R x ys ≡ ys ++ x ∷ []
   insert_sorted-last x ys d e = last_of x ys d (position-None (stops R x) ys d e)
 
-  -- ---- what is there afterwards
+  -- ---- what the list has afterwards
 
-  -- what is greater than each of them
+  -- an element of a list whose elements are all greater than x is greater than x
   pub after_has : (x p : K) (ys : List K) → AllAfter R x ys → Has ys p → R x p ≡ Less
   after_has x p [] all h = absurd h
   after_has x p (y ∷ ys) all (inl e) = ap (λ z. R x z) (sym e) ∙ all.0
   after_has x p (y ∷ ys) all (inr h) = after_has x p ys all.1 h
 
-  -- what is there was inserted or was there
+  -- each element was inserted or was there before
   pub has_put : (x z : K) (ys : List K) → Has (insert_sorted R x ys) z → (x ≡ z) ⊎ Has ys z
   has_put x z [] h = h
   has_put x z (y ∷ ys) h =
@@ -116,7 +116,7 @@ module _ {K : Type 0} (R : K → K → Ordering) where
       (λ e h. elim h [ inl same ↦ inr (inl same) | inr more ↦ elim (has_put x z ys more) [ inl same ↦ inl same | inr old ↦ inr (inr old) ] ])
       h
 
-  -- what was there stays
+  -- an element that was there is still there
   pub put_keeps : (x z : K) (ys : List K) → Has ys z → Has (insert_sorted R x ys) z
   put_keeps x z [] h = absurd h
   put_keeps x z (y ∷ ys) h =
@@ -125,7 +125,7 @@ module _ {K : Type 0} (R : K → K → Ordering) where
       (λ e. h)
       (λ e. elim h [ inl same ↦ inl same | inr more ↦ inr (put_keeps x z ys more) ])
 
-  -- what is inserted is there
+  -- the inserted element is there
   pub put_has : CmpEqualImpliesEq R → (x : K) (ys : List K) → Has (insert_sorted R x ys) x
   put_has exact x [] = inl refl
   put_has exact x (y ∷ ys) =

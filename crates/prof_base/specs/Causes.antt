@@ -1,4 +1,4 @@
--- When an answer that names a fault may come.
+-- When an answer may name a fault.
 use Rattle.std.specs.Prelude.{ℕ, ◌+◌, ◌-◌, ◌^◌, ◌≤◌, min}
 
 -- a count rose, or stays at the greatest value of a u64

@@ -3,7 +3,7 @@ use Rattle.std.specs.Prelude.{ℕ, ◌*◌, ◌≤◌, List, max}
 use Rattle.std.specs.List.{AllByRecursion}
 use Rattle.std.specs.Int.{◌∣◌, div_ceil}
 
--- the base as often as it takes to reach the interval, and at least once
+-- the base, as many times as it takes to reach the interval, and at least once
 abbrev pub rounded_of : ℕ → ℕ → ℕ
 rounded_of base interval = max (div_ceil interval base) 1 * base
 
@@ -18,7 +18,7 @@ pub record IsRounded (base interval rounded : ℕ) : Type 0 where
 abbrev pub DividesEach : ℕ → List ℕ → ℕ → Type 0
 DividesEach base intervals d = AllByRecursion (λ interval. d ∣ rounded_of base interval) intervals
 
--- the common divisor of the rounded intervals that every common divisor divides, so 0 where there are none
+-- the common divisor of the rounded intervals that every common divisor divides; 0 if there are no intervals
 pub record IsSourceInterval (base : ℕ) (intervals : List ℕ) (source : ℕ) : Type 0 where
   pub common : DividesEach base intervals source
   pub greatest : (d : ℕ) → DividesEach base intervals d → d ∣ source

@@ -5,12 +5,12 @@ use Rattle.std.specs.declared.cmp.Ordering.{Ordering}
 use Rattle.std.specs.declared.cmp.Ordering.TheVariants.{Less}
 use Rattle.std.specs.Ordering.{is_lt, is_eq}
 
--- x before the first element that it is less than; nothing changes where an equal one comes first
+-- x is put before the first element that it is less than; nothing changes if an equal element comes first
 abbrev pub insert_sorted : {K : Type 0} → (K → K → Ordering) → K → List K → List K
 insert_sorted R x [] = x ∷ []
 insert_sorted R x (y ∷ ys) = cond (is_lt (R x y)) (x ∷ y ∷ ys) (cond (is_eq (R x y)) (y ∷ ys) (y ∷ insert_sorted R x ys))
 
--- the search for the place of x ends at the first y with this: x is less, or they are equal
+-- the search for the place of x ends at the first y for which this holds: x is less than y, or they are equal
 abbrev pub stops : {K : Type 0} → (K → K → Ordering) → K → K → Bool
 stops R x y = is_lt (R x y) || is_eq (R x y)
 
@@ -31,7 +31,7 @@ before R x xs = count_by (λ y. is_lt (R y x)) xs
 abbrev pub place : {K : Type 0} → (K → K → Ordering) → List K → K → ℕ
 place R xs x = suc (before R x xs)
 
--- count numbers that rise by one, of which the first is start
+-- the given count of numbers that rise by one, of which the first is start
 abbrev pub numbers_from : ℕ → ℕ → List ℕ
 numbers_from start zero = []
 numbers_from start (suc count) = start ∷ numbers_from (suc start) count

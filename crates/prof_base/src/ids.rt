@@ -11,7 +11,7 @@ pub struct FuncId(pub u16);
 #[derive(Clone, Copy, Debug, PartialEq, Eq, PartialOrd, Ord)]
 pub struct SessionId(pub u32);
 
-/// A time in microseconds, below 2^53, so that each JSON reader holds it exactly (RFC 8259,
+/// A time in microseconds, below 2^53, so that every JSON reader holds it exactly (RFC 8259,
 /// section 6).
 #[derive(Clone, Copy, Debug, PartialEq, Eq, PartialOrd, Ord)]
 pub struct Micros {
@@ -35,7 +35,7 @@ impl Micros {
     /// The latest time.
     pub const MAX: u64 = 0x1f_ffff_ffff_ffff;
 
-    /// The time `value` microseconds after the clock's start.
+    /// Makes the time that is `value` microseconds after the clock's start.
     pub fn new(value: u64) -> Micros
         requires { value ≤ Micros.MAX }
         ensures { result ≡ value }
@@ -43,7 +43,7 @@ impl Micros {
         Micros { value }
     }
 
-    /// The microseconds since the clock's start.
+    /// Returns the microseconds since the clock's start.
     pub fn value(self) -> u64
         ensures value { result ≡ self }
         ensures bound { result ≤ Micros.MAX }

@@ -9,8 +9,8 @@ pub const MAX_INTERVAL: u32 = 1_000_000_000;
 /// The greatest rounded interval, in microseconds.
 pub const MAX_ROUNDED: u32 = 2_000_000_000;
 
-/// The greatest common divisor: it divides both numbers, and each number that divides both divides
-/// it. So `gcd(a, 0)` is `a`, and `gcd(0, 0)` is 0.
+/// Computes the greatest common divisor: it divides both numbers, and each number that divides both
+/// divides it. So `gcd(a, 0)` is `a`, and `gcd(0, 0)` is 0.
 pub fn gcd(a: u64, b: u64) -> u64
     ensures { IsGcd a b result }
 {
@@ -22,7 +22,7 @@ pub fn gcd(a: u64, b: u64) -> u64
     greater
 }
 
-/// The least multiple of `base` that is at least `interval` and at least `base`, all in
+/// Computes the least multiple of `base` that is at least `interval` and at least `base`, all in
 /// microseconds: a session records at multiples of the isolate's base interval.
 pub fn rounded(base: u32, interval: u32) -> u32
     requires base_low { 1 ≤ base }
@@ -36,8 +36,8 @@ pub fn rounded(base: u32, interval: u32) -> u32
     steps * base
 }
 
-/// The interval at which an isolate takes samples for sessions with these intervals: the greatest
-/// common divisor of the rounded ones, 0 where there are none. All are in microseconds.
+/// Computes the interval at which an isolate takes samples for sessions with these intervals: the
+/// greatest common divisor of the rounded ones, or 0 if there are none. All are in microseconds.
 pub fn source_interval(base: u32, intervals: &[u32]) -> u32
     requires base_low { 1 ≤ base }
     requires base_high { base ≤ MAX_INTERVAL }

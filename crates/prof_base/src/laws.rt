@@ -1,4 +1,4 @@
-// Facts of the types and definitions, each the contract of a function that does nothing.
+// Laws of the types and definitions. Each function does nothing: its contract is the law.
 ghost use Rattle.std.specs.Prelude.{◌≡◌, ◌<◌, ◌≤◌, ◌⊎◌, List, length, map};
 ghost use Rattle.std.specs.List.{Contains};
 ghost use Rattle.std.specs.Cmp.{IsTotalOrder};
@@ -9,8 +9,8 @@ use crate::ids::Micros;
 use crate::interval::{MAX_INTERVAL, MAX_ROUNDED};
 use crate::text::Text;
 
-/// The limits that contracts cite by name: the greatest interval, the greatest rounded interval, the
-/// length of the longest text and the latest time, 2^53 - 1.
+/// States the limits that contracts cite by name: the greatest interval, the greatest rounded
+/// interval, the length of the longest text and the latest time, 2^53 - 1.
 pub fn limits()
     ensures interval { MAX_INTERVAL ≡ 1000000000 }
     ensures rounded { MAX_ROUNDED ≡ 2000000000 }
@@ -26,8 +26,8 @@ pub fn texts_cross_threads() {
     crosses::<Text>();
 }
 
-/// Inserting into a rising list keeps it rising. What is inserted is there, what was there stays, and
-/// nothing else comes.
+/// Inserting into a rising list keeps it rising. The inserted element is then in the list, as are
+/// those that were there, and no others are.
 pub fn insertion_keeps_order<T>()
     ensures rises { (R : T → T → Ordering) → IsTotalOrder R → (x : T) (xs : List T) → Rises R xs → Rises R (insert_sorted R x xs) }
     ensures inserted { (R : T → T → Ordering) → ((a b : T) → R a b ≡ Ordering.Equal → a ≡ b) → (x : T) (xs : List T) → Contains (insert_sorted R x xs) x }

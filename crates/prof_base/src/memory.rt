@@ -1,8 +1,7 @@
 // Out of memory.
 use std::alloc::{AllocError, AllocFailed};
 
-/// Out of memory. It is the one answer that may come at any call that takes memory, whatever its
-/// arguments.
+/// Out of memory. Every call that allocates may answer this, whatever its arguments.
 #[derive(Clone, Copy, Debug, PartialEq, Eq)]
 pub struct Memory;
 

@@ -24,7 +24,7 @@ impl<T> Model for Sequence<T> {
 }
 
 impl<T> Sequence<T> {
-    /// No elements. It takes no memory.
+    /// Makes an empty list. It allocates nothing.
     pub fn new(alloc: Global) -> Sequence<T>
         ensures { result ≡ [] }
     {
@@ -33,14 +33,14 @@ impl<T> Sequence<T> {
         }
     }
 
-    /// The elements of the vector. It takes no memory.
+    /// Makes the list of the vector's elements. It allocates nothing.
     pub fn from_vec(items: Vec<T>) -> Sequence<T>
         ensures { result ≡ items.items }
     {
         Sequence { items }
     }
 
-    /// The vector of the elements. It takes no memory.
+    /// Returns the vector of the elements. It allocates nothing.
     pub fn into_vec(self) -> Vec<T>
         ensures { result.items ≡ self }
     {
@@ -48,26 +48,26 @@ impl<T> Sequence<T> {
         items
     }
 
-    /// The elements in order.
+    /// Returns the elements in order.
     pub fn as_slice(&self) -> &[T]
         ensures { result.now ≡ self.now }
     {
         self.items.as_slice()
     }
 
-    /// The allocator that the list was made with.
+    /// Returns the allocator that the list was made with.
     pub fn allocator(&self) -> Global {
         *self.items.allocator()
     }
 
-    /// How many elements there are.
+    /// Returns the number of elements.
     pub fn len(&self) -> usize
         ensures { result ≡ length self.now }
     {
         self.items.len()
     }
 
-    /// Whether there are none.
+    /// Returns whether there are no elements.
     pub fn is_empty(&self) -> bool
         ensures { IsTrue result ↔ (self.now ≡ []) }
     {
@@ -88,7 +88,7 @@ impl<T: Drop> Sequence<T> {
 }
 
 impl<T: Copy> Sequence<T> {
-    /// A list of the same elements, on the same allocator.
+    /// Makes a list of the same elements, on the same allocator.
     pub fn copy(&self) -> Result<Sequence<T>, Memory>
         ensures { IfOk result (λ copy. copy ≡ self.now) }
     {

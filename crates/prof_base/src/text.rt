@@ -58,7 +58,7 @@ impl Text {
     /// The greatest number of bytes.
     pub const MAX_LEN: usize = 200;
 
-    /// The text of these bytes.
+    /// Makes the text of these bytes.
     pub fn new(alloc: Global, bytes: &[u8]) -> Result<Text, TextRefused>
         ensures ok { IfOk result (λ text. text ≡ bytes.now) }
         ensures is_text { OnOk result (IsText bytes.now) }
@@ -80,8 +80,8 @@ impl Text {
         }
     }
 
-    /// A text that shares the bytes of this one. It copies no bytes and takes no memory, and is
-    /// refused only where the number of sharers cannot be counted.
+    /// Makes a text that shares the bytes of this one. It copies no bytes and allocates nothing,
+    /// and fails only where the number of sharers cannot be counted.
     pub fn copy(&self) -> Result<Text, Memory>
         ensures { IfOk result (λ text. text ≡ self.now) }
     {
@@ -89,7 +89,7 @@ impl Text {
         Ok(Text { bytes })
     }
 
-    /// The bytes of the text.
+    /// Returns the bytes of the text.
     pub fn bytes(&self) -> &[u8]
         ensures bytes { result.now ≡ self.now }
         ensures is_text { IsText self.now }
@@ -97,7 +97,7 @@ impl Text {
         &self.bytes
     }
 
-    /// The text as a `str`: printable ASCII is UTF-8 (RFC 3629).
+    /// Returns the text as a `str`: printable ASCII is UTF-8 (RFC 3629).
     pub fn as_str(&self) -> &str
         ensures { result.now ≡ self.now }
     {
@@ -107,7 +107,7 @@ impl Text {
         }
     }
 
-    /// Whether the other text has the same bytes.
+    /// Returns whether the other text has the same bytes.
     pub fn same(&self, other: &Text) -> bool
         ensures same { IsTrue result ↔ (self.now ≡ other.now) }
         ensures bytes { result ≡ bytes_eq self.now other.now }

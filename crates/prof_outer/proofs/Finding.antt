@@ -30,7 +30,7 @@ file_at-cons : (file : Stored) (files : List Stored) (name : List ℕ) → file_
 unfolding is_same_name
 file_at-cons file files name = get-insert nat_list_cmp_total (files_of files) file.name file.bytes.items name
 
--- no file is left
+-- there are no more files
 pub none_here : (files : List Stored) (i : ℕ) (name : List ℕ) → length files ≤ i → file_at (files_of (drop i files)) name ≡ None
 none_here files i name h = at_drop_all (λ (left : List Stored). file_at (files_of left) name) files i h ∙ get-empty (slice_cmp nat_cmp) name
 

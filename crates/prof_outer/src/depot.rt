@@ -7,14 +7,14 @@ ghost use Rattle.prof_outer.specs.Stored.{files_of};
 use prof_base::Text;
 use std::alloc::Global;
 
-/// Why a file was not got.
+/// Why a file could not be returned.
 #[derive(Clone, Copy, Debug, PartialEq, Eq)]
 pub enum GetFault {
     /// There is no file with the name.
     Missing,
-    /// It could not be read.
+    /// The file could not be read.
     Failed,
-    /// Memory was refused.
+    /// Out of memory.
     Memory,
 }
 
@@ -29,16 +29,16 @@ pub trait Depot: Drop {
     /// How often a read failed.
     ghost read_faults: { Self → ℕ };
 
-    /// The bytes of the file with this name.
+    /// Returns the bytes of the file with this name.
     fn get(&mut self, alloc: Global, name: &Text) -> Result<Vec<u8>, GetFault>
         ensures bytes { IfOk result (λ bytes. IfSome (held self.old) (λ files. file_at files name.now ≡ Some bytes.items)) }
         ensures absent { IsErrOf result GetFault.Missing → IfSome (held self.old) (λ files. file_at files name.now ≡ None) }
 
-        // A fault has its count.
+        // Each fault is counted.
         ensures missing { IsErrOf result GetFault.Missing → Rose (misses self.old) (misses self.new) }
         ensures failed { IsErrOf result GetFault.Failed → Rose (read_faults self.old) (read_faults self.new) }
 
-        // Only its own fault changes a count: Ok and lack of memory change none.
+        // A count changes only at its own fault: it does not at Ok or out of memory.
         ensures no_miss { OnOk result (misses self.new ≡ misses self.old) }
         ensures no_read_fault { OnOk result (read_faults self.new ≡ read_faults self.old) }
         ensures missing_only { IsErrOf result GetFault.Missing → read_faults self.new ≡ read_faults self.old }
@@ -59,7 +59,7 @@ pub struct Stored {
     pub bytes: Vec<u8>,
 }
 
-// The first file with this name.
+// Finds the first file with this name.
 fn find<'a>(files: &'a [Stored], name: &Text) -> Option<&'a Stored>
     ensures found { IfSome result (λ file. file_at (files_of files.now) name.now ≡ Some file.now.bytes.items) }
     ensures none { IfNone result (file_at (files_of files.now) name.now ≡ None) }
@@ -72,7 +72,7 @@ fn find<'a>(files: &'a [Stored], name: &Text) -> Option<&'a Stored>
     None
 }
 
-/// Files in memory that are always read. Of two files with one name the first counts.
+/// Files in memory, whose reads never fail. Of two files with one name the first counts.
 #[derive(Debug, Drop)]
 pub struct SureDepot {
     files: Vec<Stored>,
@@ -80,7 +80,7 @@ pub struct SureDepot {
 }
 
 impl SureDepot {
-    /// A depot of these files. It takes no memory.
+    /// Makes a depot of these files. It allocates nothing.
     pub fn new(files: Vec<Stored>) -> SureDepot
         ensures held { ⟦<SureDepot as Depot>⟧.held result ≡ Some (files_of files.items) }
         ensures misses { ⟦<SureDepot as Depot>⟧.misses result ≡ 0 }
@@ -121,8 +121,9 @@ pub struct MemoryDepot {
 }
 
 impl MemoryDepot {
-    /// A depot of these files, of which the first counts where two have one name. The calls of
-    /// `get` whose numbers are in `failing` fail; the first call has number 1. It takes no memory.
+    /// Makes a depot of these files, of which the first counts where two have one name. The calls
+    /// of `get` whose numbers are in `failing` fail; the first call has number 1. It allocates
+    /// nothing.
     pub fn new(files: Vec<Stored>, failing: Vec<u64>) -> MemoryDepot
         ensures held { ⟦<MemoryDepot as Depot>⟧.held result ≡ Some (files_of files.items) }
         ensures misses { ⟦<MemoryDepot as Depot>⟧.misses result ≡ 0 }

@@ -14,7 +14,7 @@ use std::{fs, io};
 pub const MAX_FILE: usize = 268_435_456;
 
 /// The files of the folder in which the program runs. A file of more than [`MAX_FILE`] bytes is a
-/// read fault. A file is missing where the system finds none of the name.
+/// read fault. A file is missing where the system finds none with the name.
 #[derive(Drop)]
 pub struct Folder<R: Files + Drop> {
     rt: R,
@@ -23,7 +23,7 @@ pub struct Folder<R: Files + Drop> {
 }
 
 impl<R: Files + Drop> Folder<R> {
-    /// The current folder. It opens nothing and takes no memory.
+    /// Makes a depot of the current folder. It opens nothing and allocates nothing.
     pub fn new(rt: R) -> Folder<R>
         ensures held { ⟦<Folder<R> as Depot>⟧.held result ≡ None }
         ensures misses { ⟦<Folder<R> as Depot>⟧.misses result ≡ 0 }
@@ -37,7 +37,7 @@ impl<R: Files + Drop> Folder<R> {
     }
 }
 
-// What an error of the system means of a file.
+// Returns the fault that an error of the system means for a file.
 fn fault_of(error: &io::Error) -> GetFault
     ensures missing { (result ≡ GetFault.Missing) ↔ (error_kind error.now ≡ ErrorKind.NotFound) }
     ensures memory { (result ≡ GetFault.Memory) ↔ (error_kind error.now ≡ ErrorKind.OutOfMemory) }
@@ -49,15 +49,15 @@ fn fault_of(error: &io::Error) -> GetFault
     }
 }
 
-// Whether a file may have these bytes.
+// Returns whether a file may have these bytes.
 fn is_within_limit(bytes: &[u8]) -> bool
     ensures { IsTrue result ↔ (length bytes.now ≤ MAX_FILE) }
 {
     bytes.len() <= MAX_FILE
 }
 
-// All that the reader gives. One byte past the limit is asked for, since a device may say that it is
-// empty and give bytes without end.
+// Reads all that the reader gives. It asks for one byte past the limit, since a device may claim to
+// be empty and give bytes without end.
 fn read_whole<S: Read + Drop>(alloc: Global, source: S) -> Result<Vec<u8>, GetFault>
     ensures whole { IfOk result (λ bytes. IfSome (S.remaining source) (λ all. bytes.items ≡ all)) }
     ensures within { IfOk result (λ bytes. vec_len bytes ≤ MAX_FILE) }
@@ -105,7 +105,7 @@ pub struct WriterSink<W: Write + Drop> {
 }
 
 impl<W: Write + Drop> WriterSink<W> {
-    /// A sink over this writer. It writes nothing and takes no memory.
+    /// Makes a sink over this writer. It writes nothing and allocates nothing.
     pub fn new(writer: W) -> WriterSink<W>
         ensures written { ⟦<WriterSink<W> as Sink>⟧.written result ≡ None }
         ensures faults { ⟦<WriterSink<W> as Sink>⟧.faults result ≡ 0 }

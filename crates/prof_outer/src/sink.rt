@@ -10,7 +10,7 @@ use std::alloc::Global;
 pub enum SinkFault {
     /// The write failed, perhaps after some of the bytes.
     Failed,
-    /// Memory was refused, and nothing was written.
+    /// Out of memory; nothing was written.
     Memory,
 }
 
@@ -28,21 +28,21 @@ pub trait Sink: Drop {
         ensures part { IsErrOf result SinkFault.Failed → AppendsPart (written self.old) (written self.new) bytes.now }
         ensures memory { IsErrOf result SinkFault.Memory → written self.new ≡ written self.old }
 
-        // A fault has its count, which changes at nothing else and never falls.
+        // Each fault is counted. The count changes at nothing else and never falls.
         ensures failed { IsErrOf result SinkFault.Failed → Rose (faults self.old) (faults self.new) }
         ensures no_fault { OnOk result (faults self.new ≡ faults self.old) }
         ensures memory_faults { IsErrOf result SinkFault.Memory → faults self.new ≡ faults self.old }
         ensures faults { faults self.old ≤ faults self.new };
 }
 
-/// Bytes in memory. No write of them fails.
+/// Bytes in memory, whose writes never fail.
 #[derive(Debug, Drop)]
 pub struct SureSink {
     bytes: Vec<u8>,
 }
 
 impl SureSink {
-    /// A sink with no bytes. It takes no memory.
+    /// Makes a sink with no bytes. It allocates nothing.
     pub fn new(alloc: Global) -> SureSink
         ensures written { ⟦<SureSink as Sink>⟧.written result ≡ Some [] }
         ensures faults { ⟦<SureSink as Sink>⟧.faults result ≡ 0 }
@@ -52,7 +52,7 @@ impl SureSink {
         }
     }
 
-    /// The bytes so far.
+    /// Returns the bytes so far.
     pub fn bytes(&self) -> &[u8]
         ensures { ⟦<SureSink as Sink>⟧.written self.now ≡ Some result.now }
     {
@@ -83,9 +83,9 @@ pub struct MemorySink {
 }
 
 impl MemorySink {
-    /// A sink with no bytes. The calls of `write_all` whose numbers are in `failing` fail, after the
-    /// first half of their bytes where memory allows it and else after none; the first call has
-    /// number 1. It takes no memory.
+    /// Makes a sink with no bytes. The calls of `write_all` whose numbers are in `failing` fail,
+    /// after the first half of their bytes if memory allows it and else after none; the first call
+    /// has number 1. It allocates nothing.
     pub fn new(alloc: Global, failing: Vec<u64>) -> MemorySink
         ensures written { ⟦<MemorySink as Sink>⟧.written result ≡ Some [] }
         ensures faults { ⟦<MemorySink as Sink>⟧.faults result ≡ 0 }
@@ -98,7 +98,7 @@ impl MemorySink {
         }
     }
 
-    /// The bytes so far.
+    /// Returns the bytes so far.
     pub fn bytes(&self) -> &[u8]
         ensures { ⟦<MemorySink as Sink>⟧.written self.now ≡ Some result.now }
     {
@@ -106,7 +106,7 @@ impl MemorySink {
     }
 }
 
-// Appends the first half where memory allows it, and else nothing.
+// Appends the first half if memory allows it, and else nothing.
 fn append_half(written: &mut Vec<u8>, bytes: &[u8])
     ensures { AppendsPart (Some written.old.items) (Some written.new.items) bytes.now }
 {

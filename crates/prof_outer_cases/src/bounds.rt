@@ -27,7 +27,7 @@ pub(crate) fn get_twice<D: Depot>(
     Ok((first, second))
 }
 
-// A depot that never fails answers no read fault.
+// Gets a file twice from a depot that never fails, which therefore answers no read fault.
 pub(crate) fn get_twice_surely(
     alloc: Global,
     depot: &mut SureDepot,
@@ -53,7 +53,7 @@ pub(crate) fn write_twice<O: Sink>(
     out.write_all(alloc, second)
 }
 
-// A sink that never fails answers no fault.
+// Writes twice to a sink that never fails, which therefore answers no fault.
 pub(crate) fn write_twice_surely(
     alloc: Global,
     out: &mut SureSink,

@@ -43,7 +43,7 @@ pub(crate) fn from_folder<R: Files + Clone + Drop>(
     got_from(alloc, &mut folder, lines)
 }
 
-// Each file is got twice.
+// Gets each file twice.
 pub(crate) fn from_sure_depot(alloc: Global, lines: &str) -> Result<String, io::Error> {
     let mut depot = SureDepot::new(files(alloc, lines)?);
     let mut text = String::new(alloc);

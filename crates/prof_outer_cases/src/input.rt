@@ -12,7 +12,7 @@ pub(crate) fn text_of(alloc: Global, word: &str) -> Result<Text, io::Error> {
     }
 }
 
-// The files of the lines `file NAME BYTES`.
+// Reads the files of the lines `file NAME BYTES`.
 pub(crate) fn files(alloc: Global, lines: &str) -> Result<Vec<Stored>, io::Error> {
     let mut files = Vec::new(alloc);
     for line in lines.lines() {
@@ -28,7 +28,7 @@ pub(crate) fn files(alloc: Global, lines: &str) -> Result<Vec<Stored>, io::Error
     Ok(files)
 }
 
-// The numbers of the lines `fail CALL`.
+// Reads the numbers of the lines `fail CALL`.
 pub(crate) fn failing(alloc: Global, lines: &str) -> Result<Vec<u64>, io::Error> {
     let mut calls = Vec::new(alloc);
     for line in lines.lines() {

@@ -39,7 +39,7 @@ pub(crate) fn to_memory_sink(alloc: Global, lines: &str) -> Result<String, io::E
     Ok(text)
 }
 
-// Each of the bytes is written twice.
+// Writes the bytes of each line twice.
 pub(crate) fn to_sure_sink(alloc: Global, lines: &str) -> Result<String, io::Error> {
     let mut sink = SureSink::new(alloc);
     let mut text = String::new(alloc);

@@ -24,7 +24,7 @@ fn check_entry(rt: &impl Abort, entry: &Entry) {
     assert_eq!(rt; (entry.script, entry.line, entry.column), (1, 2, 3));
 }
 
-// One function with one slot, at line 5.
+// Makes a layout of one function with one slot, at line 5.
 fn layout(alloc: Global) -> Result<Layout, Fail> {
     let mut units = Sequence::new(alloc);
     units.push(Unit {

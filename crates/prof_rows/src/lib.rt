@@ -1,6 +1,6 @@
-//! Tests of values that are built in code: that calls succeed where memory is there, at both ends of
-//! their sizes. Tables of cases over texts are programs of their own (`NAME_cases`). They stand apart
-//! from the crates that they test, since a crate with tests is proved twice.
+//! Tests of values that are built in code: calls succeed while there is memory, at both ends of the
+//! sizes of these values. Tables of cases over texts are programs of their own (`NAME_cases`). The
+//! tests are apart from the crates that they test, since a crate with tests is proved twice.
 #![tactic(auto)]
 
 #[cfg(test)]

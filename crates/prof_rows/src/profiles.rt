@@ -48,7 +48,7 @@ fn slot(line: u32) -> Slot
     }
 }
 
-// The code of a function that begins at the line of its only instruction.
+// Creates the code of a function that begins at the line of its only instruction.
 fn create(alloc: Global, start: u32, func: FuncId, name: &str, line: u32) -> Result<Item, Fail> {
     let entry = Entry {
         name: Text::new(alloc, name.as_bytes())?,
@@ -69,8 +69,8 @@ fn create(alloc: Global, start: u32, func: FuncId, name: &str, line: u32) -> Res
     Ok(event(CodeEvent::Create { start, layout }))
 }
 
-// Of two functions the first is taken away by the second, which overlaps it; a session over three
-// ticks, of which two are in no function's code.
+// Lists items in which the second of two functions takes the code of the first away, since it
+// overlaps it. A session runs over three ticks, two of which are in no function's code.
 fn overlap(alloc: Global, session: SessionId) -> Result<Sequence<Item>, Fail> {
     let options = Options {
         port: 0,

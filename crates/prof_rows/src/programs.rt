@@ -1,4 +1,5 @@
-// Writing what is not read yet. What is read and what is refused is tried in `guest_text_cases`.
+// Writing programs that cannot be read yet. What is read and what is refused is tested in
+// `guest_text_cases`.
 use guest_text::{Func, Instr, Op, Reg, write_functions};
 use prof_base::{FuncId, Sequence, Text};
 use std::alloc::Global;

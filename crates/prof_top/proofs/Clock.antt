@@ -1,4 +1,4 @@
--- That the schedule of the step clock keeps the rules, and that the program comes to it.
+-- That the schedule of the step clock keeps the rules, and that the program reaches its entries.
 use Rattle.std.proofs.Common.{◌≡◌, ℕ, zero, suc, ◌-◌, ◌<◌, ◌≤◌, List, [], ◌∷◌, ◌++◌, length, refl, ap, sym, subst, ◌∙◌, ◌⊎◌, inl, inr, take, lit<, lit≤, arith}
 use Rattle.std.proofs.lemmas.Bool.{cond_both, leb-true}
 use Rattle.std.proofs.lemmas.Bool.Decides.{nat_tests}
@@ -20,7 +20,7 @@ use Rattle.record_text.specs.declared.schedule.ScheduleEntry.{ScheduleEntry}
 use Rattle.prof_top.specs.ClockLaws.{ClocksAreLegal, ClocksFit}
 use Rattle.prof_top.specs.StepClock.{entry_at, is_asked, samples_before, entries_before, last_step, EndsWithin}
 
--- no end, and at an earlier step and time
+-- not an end, and at an earlier step and time
 record IsEarlier (moment : ℕ) (entry : ScheduleEntry) : Type 0 where
   pub step : entry.step < moment
   pub time : entry.time < moment
@@ -46,7 +46,7 @@ entries_earlier options step moment within some = (
       (samples_earlier options.interval step),
 )
 
--- an entry stands rightly behind all that are earlier
+-- an entry is in order after entries that are all earlier
 in_order : (step : ℕ) (what : What) (entries : List ScheduleEntry) → AllByRecursion (IsEarlier step) entries → IsInOrder entries (entry_at step what)
 in_order step what entries earlier =
     all_mapped (IsEarlier step) (MayStandBehind (entry_at step what)) entries
@@ -77,7 +77,7 @@ one_runs options step =
     let course = course_after none_yet (Start options) in
     ap (λ (c : Course). length c.running) (samples_start_none options.interval step course)
 
--- one entry more
+-- one more entry
 follows_more : (schedule : ScheduleParts) (before entries : List ScheduleEntry) (entry : ScheduleEntry) → EachMayFollow schedule before entries → MayFollow schedule (before ++ entries) entry → EachMayFollow schedule before (entries ++ entry ∷ [])
 follows_more schedule before [] entry each may = (subst (λ list. MayFollow schedule list entry) (append-nil before) may, tt)
 follows_more schedule before (first ∷ entries) entry each may =
@@ -121,7 +121,7 @@ each_follows schedule options (suc step) some steps places =
     (λ not fits. subst (EachMayFollow schedule []) (sym (append-nil before)) (each (shorter [] fits)))
     places
 
--- the guest's own end, or the budget's, within the budget
+-- an end of the guest, or of the budget, is within the limits
 end_within : (funcs : List Func) (schedule : ScheduleParts) (before : List ScheduleEntry) (step : ℕ) (cause : EndCause) → suc (length before) < schedule.limit → EndsWithin funcs schedule.budget step cause → IsEndWithin schedule before (suc (length before)) step cause
 end_within funcs schedule before step cause.Halt places ends = (places, ends.0)
 end_within funcs schedule before step cause.Overflow places ends = (places, ends.0)
@@ -177,11 +177,11 @@ may_end funcs budget step cause.Budget ends = ends.1
 may_end funcs budget step cause.Full ends = absurd ends
 may_end funcs budget step cause.Memory ends = absurd ends
 
--- the program comes to it
+-- the program reaches the entry
 abbrev Came : List Func → ScheduleEntry → Type 0
 Came funcs entry = MayComeAbout funcs entry.step entry.what
 
--- the program comes to all that comes about before a step up to its end
+-- the program reaches all that happens before a step up to its end
 all_came : (funcs : List Func) (budget : ℕ) (options : Options) (at step : ℕ) (cause : EndCause) → at ≤ step → 1 ≤ step
     → EndsWithin funcs budget step cause → AllByRecursion (Came funcs) (entries_before options at)
 all_came funcs budget options at step cause within late ends =
@@ -201,7 +201,7 @@ clock_fits funcs schedule options step cause some ends made =
 roomy : (limit size : ℕ) → nat_le (limit - 1) size ≡ false → suc size < limit
 roomy limit size room = grind (arith, nat_tests)
 
--- the first so many entries are what comes about before some step
+-- the first `places` entries are what happens before some step
 record IsCut (options : Options) (step places : ℕ) : Type 0 where
   pub at : ℕ
   pub within : at ≤ step
@@ -228,7 +228,7 @@ cut_at options (suc step) places some fits =
           record { at = suc step; within = omega arith; front = take_all places (before ++ more) (omega (arith, all)); size = all }
     ]
 
--- no end, and at this moment or before it
+-- not an end, and at this moment or before it
 record IsUpTo (moment : ℕ) (entry : ScheduleEntry) : Type 0 where
   pub step : entry.step ≤ moment
   pub time : entry.time ≤ moment
@@ -275,7 +275,7 @@ full_may_follow schedule options step places steps =
       limit = (places, at_last before, steps);
     }
 
--- the schedule that is full, up to the step at which it is so
+-- a schedule that is full, up to the step at which it becomes full
 record IsFull (schedule : ScheduleParts) (options : Options) (step : ℕ) : Type 0 where
   pub cut : IsCut options step (schedule.limit - 1)
   pub made : schedule.entries ≡ entries_before options cut.at ++ entry_at (last_step (entries_before options cut.at)) (End cause.Full) ∷ []

@@ -1,4 +1,4 @@
--- That a run has just one schedule under the step clock.
+-- That a run has exactly one schedule under the step clock.
 use Rattle.std.proofs.Common.{◌≡◌, ℕ, zero, suc, ◌-◌, ◌≤◌, List, refl, ap, sym, subst, ◌∙◌, ◌⊎◌, inl, inr, arith}
 use Rattle.std.proofs.Math.Bridge.{le_prop}
 use Rattle.std.specs.Prelude.{Option, Some, None}
@@ -17,7 +17,7 @@ use Rattle.prof_top.proofs.Clock.{within_or_past}
 use Rattle.prof_top.specs.ClockLaws.{ClocksRun, ClocksAgree}
 use Rattle.prof_top.specs.StepClock.{entry_at, entries_before, with_end, IsWholeRecording, EndsWithin}
 
--- the cause by which a run ends where the machine ends so
+-- the cause for which a run ends where its machine ends in this way
 abbrev cause_of : Ended → EndCause
 cause_of ended.Halt = cause.Halt
 cause_of ended.Overflow = cause.Overflow
@@ -115,7 +115,7 @@ itself funcs budget step ended.Halt within at = record { step = step; why = caus
 itself funcs budget step ended.Overflow within at = record { step = step; why = cause.Overflow; ends = (within, at) }
 itself funcs budget step ended.OffEnd within at = record { step = step; why = cause.OffEnd; ends = (within, at) }
 
--- one step more of budget
+-- a budget of one more step
 more_budget : (funcs : List Func) (budget : ℕ) → IsGoing funcs budget → (found : Option Ended) → (plain funcs (suc budget)).ended ≡ found → HasEnd funcs (suc budget)
 more_budget funcs budget going None found = record { step = suc budget; why = cause.Budget; ends = (refl, found) }
 more_budget funcs budget going (Some how) found =

@@ -151,7 +151,7 @@ handed_so lines file delivered written before now delivers writes =
       printed_done = λ done. subst (AppendsWhole before.written now.written) same (written_done delivered written before.written now.written text writes.ok done);
     }
 
--- what has come out of a run that ends so
+-- what has come out of a run that ends in this way
 pub handed_out : (lines file : List ℕ) (ending : Ending) (delivered : Result (Unit {0}) Undelivered) (written : Result (Unit {0}) SinkFault) (before now : Outlets)
     → ending ≡ run_ending delivered written
     → Delivers delivered file before now → Writes written (lines ++ flat_map file_line (delivered_of delivered file)) before now
@@ -173,7 +173,7 @@ run_handed funcs every schedules lines file lines' file' status before now run s
     (subst (λ list. IsHandedOut list (λ done. lines' ++ flat_map file_line done) status before now) files handed) in
     subst (AllByRecursion (λ schedule. IsDone funcs every schedule status before now)) (sym run.one) (record { run = run.run; handed = one }, tt)
 
--- want of memory for the line of error leaves what has come out
+-- where memory runs out for the line of error, what has come out stays the same
 pub handed_at_last : (files : List SessionFile) (text : List SessionFile → List ℕ) (status last : ℕ) (before now : Outlets) → (last ≡ status) ⊎ (last ≡ 6)
     → IsHandedOut files text status before now → IsHandedOut files text last before now
 handed_at_last files text status last before now (inl same) handed = subst (λ s. IsHandedOut files text s before now) (sym same) handed

@@ -33,7 +33,7 @@ use Rattle.prof_top.specs.StepClock.{entry_at, is_asked, entries_before, last_st
 use Rattle.prof_top.specs.Straight.{IsAfter}
 use Rattle.prof_top.specs.declared.recording.TheConstants.{BUDGET, ENTRIES}
 
--- one more entry leaves what stands before the entries
+-- one more entry leaves the head of the schedule unchanged
 entered_head : (every : ℕ) (schedule schedule' : ScheduleParts) (entry : ScheduleEntry) → schedule' ≡ record schedule { entries = schedule.entries ++ entry ∷ [] }
     → IsHead every schedule → IsHead every schedule'
 entered_head every schedule schedule' entry entered head =

@@ -8,10 +8,10 @@ use Rattle.std.proofs.lemmas.Fmt.{parse-decimal}
 pub parsed_number : (n k : ℕ) (word : List ℕ) → n < 2 ^ 32 → word ≡ decimal n → ParsesUnsigned {E = Unit {0}} 32 10 word (Ok k) → k ≡ n
 parsed_number n k word small spelled parses = let parsed : Result ℕ (Unit {0}) = Ok k in let same : parsed ≡ Ok n = parse-decimal 32 n word parsed small (omega arith) spelled parses in cc
 
--- and it is parsed
+-- the decimal text of a number is always parsed
 pub parsed_always : (n : ℕ) (word : List ℕ) → n < 2 ^ 32 → word ≡ decimal n → ParsesUnsigned {E = Unit {0}} 32 10 word (Err tt) → ⊥
 parsed_always n word small spelled refused = let parsed : Result ℕ (Unit {0}) = Err tt in let same : parsed ≡ Ok n = parse-decimal 32 n word parsed small (omega arith) spelled refused in cc
 
--- bytes that are found different are so
+-- bytes that compare as different are different
 pub differs : {xs ys : List ℕ} → bytes_eq xs ys ≡ false → xs ≡ ys → ⊥
 differs {xs} {ys} found same = let yes : bytes_eq xs ys ≡ true = (bytes_eq-Decides xs ys).1 same in cc

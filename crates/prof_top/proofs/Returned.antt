@@ -25,7 +25,7 @@ pub returned : (words : List (List ℕ)) (held : Option FileMap) (funcs : List F
 returned words held funcs every status before now schedules loaded done =
     all_mapped (λ schedule. IsDone funcs every schedule status before now) (IsReturned words held status before now) schedules (λ schedule is. (funcs, every, loaded, is)) done
 
--- only want of memory changes the status once the line of error was written
+-- only out of memory changes the status once the line of error was written
 pub last_status : (ending last : Ending) → (last ≡ ending) ⊎ (last ≡ Memory) → (status_of last ≡ status_of ending) ⊎ (status_of last ≡ 6)
 last_status ending last (inl same) = inl (ap status_of same)
 last_status ending last (inr memory) = inr (ap status_of memory)

@@ -25,7 +25,7 @@ few_samples every zero = lit≤ tt
 few_samples every (suc step) =
     omega (arith, few_samples every step, length-append (samples_before every step) (if is_asked every step then entry_at step Sampled ∷ [] else []), few_more every step)
 
--- and the start before them
+-- at most one entry for each step, and the start
 pub few_entries : (options : Options) (step : ℕ) → length (entries_before options step) ≤ step + 1
 few_entries options step = omega (arith, few_samples options.interval step)
 
@@ -38,7 +38,7 @@ all_kept limit entries end room =
     sym (cond-false (nat_le (limit - 1) (length entries)) (take (limit - 1) entries ++ entry_at (last_step (take (limit - 1) entries)) (End cause.Full) ∷ []) (entries ++ end ∷ [])
     (has_room limit (length entries) room))
 
--- the machine has halted with the step that was the last
+-- the machine has halted with the last step
 halts_within : (funcs : List Func) (step index : ℕ) (registers : List ℕ) → step ≤ 4096 → IsGoing funcs (step - 1)
     → plain funcs step ≡ straight_state funcs index registers true → EndsWithin funcs BUDGET step cause.Halt
 halts_within funcs step index registers few going state = (omega (arith, few), (going, ap (λ s. s.ended) state))

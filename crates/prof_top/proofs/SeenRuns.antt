@@ -89,7 +89,7 @@ alone_rounded every some =
 alone_divided : (n : ℕ) → gcd 0 n ≡ n
 alone_divided n = let divides = gcd_is_greatest 0 n in dvd_antisymm divides.1 (divides.2 n (dvd-zero n) (dvd_refl n))
 
--- one session that has the base as its interval is sampled at that
+-- one session whose interval is the base is sampled at that interval
 pub source_alone : (every number port : ℕ) → 1 ≤ every → source_for every (record { session = number; port = port; interval = every } ∷ []) ≡ every
 source_alone every number port some = ap (gcd 0) (alone_rounded every some) ∙ alone_divided every
 
@@ -115,7 +115,7 @@ ticks_are_ticks funcs every (suc step) =
     (λ asked. all_pushed IsTick before (tick_at funcs step step every true None) all tt)
     (λ not. subst (AllByRecursion IsTick) (sym (append-nil before)) all)
 
--- a session that has begun is finished behind all ticks
+-- a session that has begun is finished after all ticks
 finished_behind : (number : ℕ) (begun : Begun) (ticks : List Seen) (time : ℕ) (reasons : DeoptReasons) → AllByRecursion IsTick ticks
     → is_some (recording_behind number (Some begun) (ticks ++ finished time true reasons ∷ [])) ≡ true
 finished_behind number begun [] time reasons all = refl
@@ -142,7 +142,7 @@ no_tick_ends running (started s options at ∷ ticks) seen all = absurd all.0
 no_tick_ends running (stopped s at given ∷ ticks) seen all = absurd all.0
 no_tick_ends running (finished at files given ∷ ticks) seen all = absurd all.0
 
--- just the one session of a run ends, and with its end
+-- exactly the one session of a run ends, and with its end
 pub one_ends : (funcs : List Func) (options : Options) (step time : ℕ) (reasons : DeoptReasons) → ends (seen_before funcs options step ++ finished time true reasons ∷ []) ≡ 1 ∷ []
 one_ends funcs options step time reasons =
     no_tick_ends (1 ∷ []) (ticks_before funcs options.interval step) (finished time true reasons ∷ []) (ticks_are_ticks funcs options.interval step)

@@ -18,7 +18,7 @@ pub record Outside : Type 0 where
   pub stream_faults : ℕ
   pub out_faults : ℕ
 
--- the same, by its parts
+-- an `Outside` from its parts
 abbrev pub outside : Option FileMap → ℕ → ℕ → ℕ → ℕ → ℕ → Outside
 outside held misses read_faults aborts stream_faults out_faults =
     record {
@@ -52,7 +52,7 @@ IsStoppedAs words held misses misses' faults faults' Aborted = ⊥
 abbrev pub IsRunnable : List (List ℕ) → Option FileMap → Type 0
 IsRunnable words held = NamesProgram words (MayRead held)
 
--- why a call ended so
+-- why a call ended in this way
 abbrev pub IsEndedAs : List (List ℕ) → Outside → Outside → Ending → Type 0
 IsEndedAs words before now Done = IsRunnable words before.held
 IsEndedAs words before now CannotWrite =

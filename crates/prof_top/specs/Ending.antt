@@ -30,11 +30,11 @@ cause_word cause.Twice = codes "twice"
 cause_word cause.Limit = codes "limit"
 cause_word cause.NoMain = codes "nomain"
 
--- what is said of a program's text
+-- the line of error for a program's text that is refused
 abbrev pub refused_line : List ℕ → ℕ → ProgramCause → List ℕ
 refused_line name line cause = codes "cpuprof: program " ++ name ++ codes " line " ++ decimal line ++ codes ": " ++ cause_word cause ++ codes "\n"
 
--- the line of error, and nothing where all was done
+-- the line of error, or no bytes where all was done
 abbrev pub line_of : Ending → List ℕ
 line_of Done = []
 line_of Usage = codes "cpuprof: usage\n"
@@ -71,7 +71,7 @@ ending_after ending (Err sink.Memory) = Memory
 ending_after ending (Err sink.Failed) = ending
 ending_after ending (Ok u) = ending
 
--- a run ends so
+-- a run may end in this way
 abbrev pub IsRunEnding : Ending → Type 0
 IsRunEnding Done = Unit {0}
 IsRunEnding CannotWrite = Unit {0}

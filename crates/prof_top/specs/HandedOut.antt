@@ -17,7 +17,7 @@ pub record Outlets : Type 0 where
   pub written : Option (List ℕ)
   pub out_faults : ℕ
 
--- the same, by its parts
+-- an `Outlets` from its parts
 abbrev pub outlets : Option Parts → ℕ → ℕ → Option (List ℕ) → ℕ → Outlets
 outlets parts aborts stream_faults written out_faults =
     record { parts = parts; aborts = aborts; stream_faults = stream_faults; written = written; out_faults = out_faults }
@@ -26,12 +26,12 @@ outlets parts aborts stream_faults written out_faults =
 abbrev pub text_at : List (List ℕ) → ℕ → List ℕ
 text_at texts number = option_map_or (λ text. text) (slice_get texts number) []
 
--- the first `number` texts were added, each as one part, and a prefix of the next is unfinished: after the last there is no next, and nothing is
+-- the first `number` texts were added, each as one part, and a prefix of the next is unfinished; after the last there is no next, and the unfinished part is empty
 abbrev pub AddsParts : List (List ℕ) → ℕ → Option Parts → Option Parts → Type 0
 AddsParts texts number before now =
     (part : List ℕ) × IsPrefix part (text_at texts number) × (now ≡ option_map (λ parts. (parts.0 ++ take number texts, part)) before)
 
--- Of these files the first ones were delivered, and this text was printed of them. All were delivered where the stream neither aborted nor failed and there was memory, where the call ended well, and where it ended by a fault of `out` alone.
+-- The first of these files were delivered, and this text was printed of them. All were delivered where the stream neither aborted nor failed and there was memory, where the call ended well, and where only `out` failed.
 pub record IsHandedOut (files : List SessionFile) (text : List SessionFile → List ℕ) (status : ℕ) (before now : Outlets) : Type 0 where
   pub delivered : ℕ
   pub parts : IfSome before.parts (λ parts. parts.1 ≡ []) → AddsParts (map (λ file. file.text) files) delivered before.parts now.parts

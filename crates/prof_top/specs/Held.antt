@@ -8,14 +8,14 @@ use Rattle.prof_top.specs.Command.{IsRun}
 abbrev pub LacksFile : Option FileMap → List ℕ → Type 0
 LacksFile held name = IfSome held (λ files. file_at files name ≡ None)
 
--- where its files can be observed, it has one under the name, and that has no reading
+-- where its files can be observed, it has one under the name, and that is not the text of a program that can be read
 abbrev pub HoldsUnreadable : Option FileMap → List ℕ → Type 0
 HoldsUnreadable held name = IfSome held (λ files. IsSomeAnd (file_at files name) (λ text. ¬ HasReading text))
 
--- where its files can be observed, it has one under the name, and that has a reading
+-- where its files can be observed, it has one under the name, and that is the text of a program that can be read
 abbrev pub MayRead : Option FileMap → List ℕ → Type 0
 MayRead held name = IfSome held (λ files. IsSomeAnd (file_at files name) HasReading)
 
--- the same of the name that the words give
+-- the same for the name that the words give
 abbrev pub MayReadProgram : Option FileMap → List (List ℕ) → Type 0
 MayReadProgram held words = (name : List ℕ) (every : ℕ) → IsRun words name every → MayRead held name

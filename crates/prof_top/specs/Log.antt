@@ -1,4 +1,4 @@
--- What a run has recorded before a number of steps are done, in programs that go straight on to a halt.
+-- What a run has recorded after fewer steps than a number, in programs that go straight on to a halt.
 use Rattle.std.specs.Prelude.{◌≡◌, ℕ, zero, suc, ◌-◌, List, [], ◌∷◌, ◌++◌, true, false, Some, None, is_some, flat_map, if◌then◌else◌}
 use Rattle.std.specs.List.{AllByRecursion}
 use Rattle.guest_text.specs.InlinedSize.{body_of}
@@ -18,17 +18,17 @@ use Rattle.prof_top.specs.Schedules.{IsHead}
 use Rattle.prof_top.specs.StepClock.{is_asked, entries_before, last_step, IsWholeRecording}
 use Rattle.prof_top.specs.Straight.{straight_state}
 
--- the ticks of the samples that are taken before this many steps are done
+-- the ticks of the samples that are taken after fewer steps than this
 abbrev pub ticks_before : List Func → ℕ → ℕ → List Seen
 ticks_before funcs every zero = []
 ticks_before funcs every (suc step) = ticks_before funcs every step ++ (if is_asked every step then tick_at funcs step step every true None ∷ [] else [])
 
--- what is seen before this many steps are done: the start, its tick, and the ticks of the samples
+-- what is seen after fewer steps than this: the start, its tick, and the ticks of the samples
 abbrev pub seen_before : List Func → Options → ℕ → List Seen
 seen_before funcs options step =
     started (session 1) options 0 ∷ tick_at funcs 0 0 0 false (Some (session 1)) ∷ ticks_before funcs options.interval step
 
--- the schedule has the entries that happen before this many steps are done, and this was seen of them
+-- the schedule has the entries that happen after fewer steps than this, and this was seen of them
 pub record IsLog (funcs : List Func) (every step : ℕ) (schedule : ScheduleParts) (seen : List Seen) : Type 0 where
   pub options : Options
   pub recording : IsWholeRecording every options
@@ -52,7 +52,7 @@ pub record IsRecorded (funcs : List Func) (every : ℕ) (schedule : SchedulePart
   pub ends : ends seen ≡ 1 ∷ []
   pub silent : (plain funcs (last_step schedule.entries)).printed ≡ []
 
--- the schedules of a run, which are one, with the lines that are printed of it and the text of its file
+-- the one schedule of a run, with the lines that are printed of the run and the text of its file
 pub record IsWholeRun (funcs : List Func) (every : ℕ) (schedules : List ScheduleParts) (lines file : List ℕ) : Type 0 where
   pub schedule : ScheduleParts
   pub one : schedules ≡ schedule ∷ []

@@ -55,7 +55,7 @@ printed_text funcs schedule files =
 abbrev pub one_file : List ℕ → List SessionFile
 one_file text = record { session = 1; text = text } ∷ []
 
--- the files that were delivered, where that one was handed to the stream with this answer
+-- the files that were delivered, where the stream gave this answer to the one file
 abbrev pub delivered_of : Result (Unit {0}) Undelivered → List ℕ → List SessionFile
 delivered_of (Ok u) text = one_file text
 delivered_of (Err fault) text = []

@@ -18,7 +18,7 @@ pub record IsRunSchedule (funcs : List Func) (every : ℕ) (schedule : ScheduleP
   pub head : IsHead every schedule
   pub clock : IsStepClock funcs every BUDGET ENTRIES schedule.entries
 
--- what holds of the schedule of a run that is over, where a call ends with this status, and of what has come out of it
+-- what holds of the schedule of a run that is over, where the call ends with this status, and of what has come out of the run
 pub record IsDone (funcs : List Func) (every : ℕ) (schedule : ScheduleParts) (status : ℕ) (before now : Outlets) : Type 0 where
   pub run : IsRunSchedule funcs every schedule
   pub handed : IsHandedOut (plain_files funcs schedule) (printed_text funcs schedule) status before now

@@ -12,7 +12,7 @@ use Rattle.prof_top.specs.declared.ending.Ending.{Ending}
 use Rattle.prof_top.specs.declared.ending.Ending.TheVariants.{Done, CannotWrite, Aborted, Memory}
 use Rattle.prof_top.specs.declared.recording.TheConstants.{BUDGET, ENTRIES}
 
--- the program that was read under a name: where the depot's files can be observed, the one whose text it has there
+-- the program that was read under a name: where the depot's files can be observed, the one whose text is there
 pub record IsProgramRead (held : Option FileMap) (name : List ℕ) (funcs : List Func) : Type 0 where
   pub rules : IsProgram funcs
   pub straight : IsStraight funcs
@@ -26,14 +26,14 @@ IsLoaded words held funcs every = (name : List ℕ) × IsRun words name every ×
 abbrev pub OfRun : List (List ℕ) → Option FileMap → (List Func → ℕ → Type 0) → Type 0
 OfRun words held P = (funcs : List Func) × (every : ℕ) × IsLoaded words held funcs every × P funcs every
 
--- what comes before the entries: the interval as the base, the ring, the budget of steps and the limit of entries
+-- what precedes the entries: the interval as the base, the ring, the budget of steps and the limit of entries
 pub record IsHead (every : ℕ) (schedule : ScheduleParts) : Type 0 where
   pub base : schedule.base ≡ every
   pub ring : schedule.ring ≡ DEFAULT_RING
   pub budget : schedule.budget ≡ BUDGET
   pub limit : schedule.limit ≡ ENTRIES
 
--- the statuses after a run that memory did not cut short
+-- the statuses after a run that did not end out of memory
 abbrev pub IsAfterRun : ℕ → Type 0
 IsAfterRun status = (status ≡ 0) ⊎ ((status ≡ 5) ⊎ (status ≡ 14))
 
@@ -41,7 +41,7 @@ IsAfterRun status = (status ≡ 0) ⊎ ((status ≡ 5) ⊎ (status ≡ 14))
 abbrev pub IsBeforeRun : ℕ → Type 0
 IsBeforeRun status = (status ≡ 1) ⊎ ((status ≡ 2) ⊎ ((status ≡ 3) ⊎ (status ≡ 4)))
 
--- how many schedules there are where a call ends so
+-- how many schedules there are where a call ends in this way
 abbrev pub HasSchedules : Ending → ℕ → Type 0
 HasSchedules Done number = number ≡ 1
 HasSchedules CannotWrite number = number ≡ 1

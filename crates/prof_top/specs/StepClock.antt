@@ -14,16 +14,16 @@ use Rattle.isolate.specs.Fits.{MayEndFor}
 abbrev pub entry_at : ℕ → What → ScheduleEntry
 entry_at step what = record { step = step; time = step; what = what }
 
--- a sample is asked for before each step whose number is a multiple of the interval, but not before the first step
+-- a sample is taken after `step` steps, for each `step` above 0 that is a multiple of the interval
 abbrev pub is_asked : ℕ → ℕ → Bool
 is_asked every step = not (step == 0) && step % every == 0
 
--- the samples that are taken before this many steps are done
+-- the samples that are taken after fewer steps than this
 abbrev pub samples_before : ℕ → ℕ → List ScheduleEntry
 samples_before every zero = []
 samples_before every (suc step) = samples_before every step ++ (if is_asked every step then entry_at step Sampled ∷ [] else [])
 
--- what happens before the end: the start, and the samples
+-- what happens before the end at this step: the start, and the samples
 abbrev pub entries_before : Options → ℕ → List ScheduleEntry
 entries_before options step = entry_at 0 (Start options) ∷ samples_before options.interval step
 
@@ -33,7 +33,7 @@ last_step [] = 0
 last_step (entry ∷ []) = entry.step
 last_step (entry ∷ next ∷ entries) = last_step (next ∷ entries)
 
--- these entries and an end after them: as many as fit before the last place, and in the last place an end that is `full`
+-- these entries and an end after them; where they leave no room for it, the first that fit, and in the last place an end for the cause `full`
 abbrev pub with_end : ℕ → List ScheduleEntry → ScheduleEntry → List ScheduleEntry
 with_end limit entries end =
     if nat_le (limit - 1) (length entries)

@@ -6,7 +6,7 @@ use Rattle.code_event.specs.declared.tick.VmState.TheVariants.{Js}
 use Rattle.guest_machine.specs.PlainMachine.{State, plain, plain_code, main_of}
 use Rattle.guest_machine.specs.declared.ended.Ended.TheVariants.{Halt}
 
--- one frame of `main`, at this index and with these registers; nothing else has happened but, it may be, the halt
+-- one frame of `main`, at this index and with these registers; nothing else has happened, except perhaps the halt
 abbrev pub straight_state : List Func → ℕ → List ℕ → Bool → State
 straight_state funcs index registers halted =
     record {
@@ -18,7 +18,7 @@ straight_state funcs index registers halted =
       ended = if halted then Some Halt else None;
     }
 
--- the program's `main` is this function, and after this many steps the machine is so
+-- the program's `main` is this function, and after this many steps the machine is in this state
 pub record IsAfter (funcs : List Func) (main : Func) (index : ℕ) (registers : List ℕ) (halted : Bool) (steps : ℕ) : Type 0 where
   pub main_is : slice_get funcs (main_of funcs) ≡ Some main
   pub state_is : plain funcs steps ≡ straight_state funcs index registers halted

@@ -25,16 +25,16 @@ use prof_outer::{Depot, Sink};
 use record_text::Schedule;
 use std::alloc::Global;
 
-/// What a call hands back.
+/// What a call returns.
 #[derive(Drop)]
 pub struct Outcome {
     /// The exit status: 0 where the guest halted and all was delivered and written, 1 for words
-    /// that are no command, 2 for a program's text that has no reading, 3 for a missing file, 4 for
-    /// one that could not be read, 5 for a stream or a sink that failed, 6 for out of memory, and
-    /// 14 for a stream that aborted.
+    /// that are no command, 2 for a program's text that cannot be read, 3 for a missing file, 4 for
+    /// a file that could not be read, 5 for a stream or a sink that failed, 6 for out of memory,
+    /// and 14 for a stream that aborted.
     pub status: u8,
     /// The schedule of the run that took place: what happened in it, and when. There is none where
-    /// nothing ran, and may be none where memory was refused.
+    /// nothing ran, and may be none where memory ran out.
     pub schedules: Sequence<Schedule>,
     /// The stream that was handed in.
     pub stream: Box<dyn OutputStream + Send>,
@@ -65,7 +65,7 @@ fn load_and_run<D: Depot, S: OutputStream, O: Sink>(
     ensures no_parts { result.schedules ≡ [] → S.parts stream.new ≡ S.parts stream.old }
     ensures no_text { result.schedules ≡ [] → O.written out.new ≡ O.written out.old }
 
-    // What was handed in goes on: the size of chunks stays, and no count falls.
+    // Of what was handed in, the size of chunks stays the same, and no count falls.
     ensures chunk_size { S.chunk_bytes stream.new ≡ S.chunk_bytes stream.old }
     ensures misses { D.misses depot.old ≤ D.misses depot.new }
     ensures read_faults { D.read_faults depot.old ≤ D.read_faults depot.new }
@@ -82,7 +82,7 @@ fn load_and_run<D: Depot, S: OutputStream, O: Sink>(
     }
 }
 
-/// Does what the words say over any stream, and says how that ended.
+/// Does what the words say over any stream, and returns how that ended.
 pub(crate) fn once<D: Depot, S: OutputStream, O: Sink, E: Sink>(
     alloc: Global,
     words: &[String],
@@ -108,7 +108,7 @@ pub(crate) fn once<D: Depot, S: OutputStream, O: Sink, E: Sink>(
     ensures no_parts { result.schedules ≡ [] → S.parts stream.new ≡ S.parts stream.old }
     ensures no_text { result.schedules ≡ [] → O.written out.new ≡ O.written out.old }
 
-    // What was handed in goes on: the size of chunks stays, and no count falls.
+    // Of what was handed in, the size of chunks stays the same, and no count falls.
     ensures chunk_size { S.chunk_bytes stream.new ≡ S.chunk_bytes stream.old }
     ensures misses { D.misses depot.old ≤ D.misses depot.new }
     ensures read_faults { D.read_faults depot.old ≤ D.read_faults depot.new }
@@ -128,10 +128,10 @@ pub(crate) fn once<D: Depot, S: OutputStream, O: Sink, E: Sink>(
 /// Does what the words of a command line say, and writes one line to `err` where the status is not
 /// 0.
 ///
-/// `run PROG EVERY` reads the program under the name PROG, runs it under a clock that counts its
-/// steps as microseconds, with one session from the first step to the end, and takes a sample at
-/// each multiple of EVERY. It delivers the session's file to the stream, prints to `out`, and hands
-/// the run's schedule back.
+/// `run PROG EVERY` reads the program under the name PROG, and runs it under a clock that counts
+/// its steps as microseconds, with one session from the first step to the end. It takes a sample
+/// after s steps, for each s that is a multiple of EVERY, from EVERY on. It delivers the session's
+/// file to the stream, prints to `out`, and returns the run's schedule.
 pub fn cpuprof_once<D: Depot, O: Sink, E: Sink>(
     alloc: Global,
     words: &[String],
@@ -146,7 +146,7 @@ pub fn cpuprof_once<D: Depot, O: Sink, E: Sink>(
     ensures usage { result.status ≡ 1 → ¬ IsCommand (map string_bytes words.now) }
     ensures command { (result.status ≡ 1) ⊎ ((result.status ≡ 6) ⊎ IsCommand (map string_bytes words.now)) }
 
-    // The program's text has no reading.
+    // The program's text cannot be read.
     ensures refused { result.status ≡ 2 → NamesProgram (map string_bytes words.now) (HoldsUnreadable (D.held depot.old)) }
     ensures readable { (result.status ≡ 2) ⊎ ((result.status ≡ 3) ⊎ ((result.status ≡ 4) ⊎ ((result.status ≡ 6)
         ⊎ MayReadProgram (D.held depot.old) (map string_bytes words.now)))) }
@@ -169,7 +169,7 @@ pub fn cpuprof_once<D: Depot, O: Sink, E: Sink>(
         (λ funcs every. IsStepClock funcs every BUDGET ENTRIES schedule.entries)) result.schedules }
 
     // All of that for one and the same program, and what has come out of its run: its files through
-    // the stream, its text through `out`. Nothing where nothing ran.
+    // the stream, and its text through `out`. Nothing has come out where nothing ran.
     ensures handed { AllByRecursion (λ schedule. OfRun (map string_bytes words.now) (D.held depot.old)
         (λ funcs every. IsDone funcs every schedule result.status
         (outlets (parts stream) (aborts stream) (stream_faults stream) (O.written out.old) (O.faults out.old))
@@ -180,8 +180,8 @@ pub fn cpuprof_once<D: Depot, O: Sink, E: Sink>(
     // The line of error.
     ensures said { IsSaid (map string_bytes words.now) result.status (E.written err.old) (E.written err.new) (E.faults err.old) (E.faults err.new) }
 
-    // What was handed in comes back and goes on: the depot's files and the size of chunks stay, and no
-    // count falls.
+    // What was handed in is returned: the depot's files and the size of chunks stay the same, and
+    // no count falls.
     ensures held { D.held depot.new ≡ D.held depot.old }
     ensures chunk_size { chunk_bytes result.stream ≡ chunk_bytes stream }
     ensures misses { D.misses depot.old ≤ D.misses depot.new }

@@ -17,7 +17,7 @@ pub enum Ending {
     Done,
     /// The words are no line of the command table.
     Usage,
-    /// The text of the program has no reading: the first fault is at this line, counted from 1.
+    /// The text of the program cannot be read: the first fault is at this line, counted from 1.
     ProgramRefused {
         name: Text,
         line: u32,
@@ -33,7 +33,7 @@ pub enum Ending {
     },
     /// The stream or `out` failed.
     CannotWrite,
-    /// Memory was refused.
+    /// Out of memory.
     Memory,
     /// The stream aborted.
     Aborted,
@@ -68,7 +68,7 @@ fn refused_line(
 }
 
 impl Ending {
-    /// The exit status.
+    /// Returns the exit status.
     pub(crate) fn status(&self) -> u8
         ensures { result ≡ status_of self.now }
     {
@@ -84,7 +84,7 @@ impl Ending {
         }
     }
 
-    /// The line of error with its line end, and no bytes where all was done.
+    /// Returns the line of error with its line end, or no bytes where all was done.
     pub(crate) fn line(&self, alloc: Global) -> Result<String, AllocError>
         ensures { IfOk result (λ line. string_bytes line ≡ line_of self.now) }
     {
@@ -115,7 +115,7 @@ fn say<E: Sink>(alloc: Global, ending: &Ending, err: &mut E) -> Result<(), SinkF
     ensures part { IsErrOf result SinkFault.Failed → AppendsPart (E.written err.old) (E.written err.new) (line_of ending.now) }
     ensures memory { IsErrOf result SinkFault.Memory → E.written err.new ≡ E.written err.old }
 
-    // A fault has its count, and the count never falls.
+    // Each fault is counted, and the count never falls.
     ensures failed { IsErrOf result SinkFault.Failed → Rose (E.faults err.old) (E.faults err.new) }
     ensures faults { E.faults err.old ≤ E.faults err.new }
 {
@@ -128,7 +128,7 @@ fn say<E: Sink>(alloc: Global, ending: &Ending, err: &mut E) -> Result<(), SinkF
     err.write_all(alloc, line.as_bytes())
 }
 
-// How the call ends, by how its line of error was written.
+// Returns how the call ends, by how its line of error was written.
 fn ending_after(ending: Ending, said: Result<(), SinkFault>) -> Ending
     ensures { result ≡ ending_after ending said }
 {
@@ -138,8 +138,8 @@ fn ending_after(ending: Ending, said: Result<(), SinkFault>) -> Ending
     }
 }
 
-/// Reports how the call ends by its line on `err`, where there is one. A fault of `err` changes
-/// nothing; where it runs out of memory, so does the call.
+/// Reports how the call ends by its line on `err`, if there is one, and returns how it ends then. A
+/// fault of `err` changes nothing; where writing runs out of memory, so does the call.
 pub(crate) fn report<E: Sink>(alloc: Global, ending: Ending, err: &mut E) -> Ending
     ensures ending { (result ≡ ending) ⊎ (result ≡ Ending.Memory) }
     ensures written { IsWritten (line_of result) (status_of result) (E.written err.old) (E.written err.new) (E.faults err.old) (E.faults err.new) }

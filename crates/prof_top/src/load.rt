@@ -20,9 +20,9 @@ pub enum Unread {
     Missing,
     /// The file could not be read.
     CannotRead,
-    /// Its text has no reading: the first fault is at this line, counted from 1.
+    /// Its text cannot be read: the first fault is at this line, counted from 1.
     Refused { line: u32, cause: ProgramCause },
-    /// Memory was refused.
+    /// Out of memory.
     Memory,
 }
 
@@ -34,7 +34,7 @@ pub(crate) struct Loaded {
     pub(crate) every: u32,
 }
 
-// The program under a name.
+// Reads the program under a name.
 fn program_under<D: Depot>(alloc: Global, depot: &mut D, name: &Text) -> Result<Program, Unread>
     ensures ok { OnOk result (MayRead (D.held depot.old) name.now) }
     ensures read { IfOk result (λ program. IsProgramRead (D.held depot.old) name.now program) }
@@ -56,7 +56,7 @@ fn program_under<D: Depot>(alloc: Global, depot: &mut D, name: &Text) -> Result<
     }
 }
 
-// How the call ends where no program was read under the name.
+// Returns how the call ends where no program was read under the name.
 fn ending_of(unread: Unread, name: Text) -> Ending
     ensures { result ≡ ending_of unread name }
 {
@@ -68,7 +68,7 @@ fn ending_of(unread: Unread, name: Text) -> Ending
     }
 }
 
-/// What the words ask to run, or how the call ends without a run.
+/// Loads what the words ask to run, or returns how the call ends without a run.
 pub(crate) fn load<D: Depot>(
     alloc: Global,
     words: &[String],

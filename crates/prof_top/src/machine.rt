@@ -1,4 +1,4 @@
-// The guest at work, for programs that go straight on to a halt.
+// The guest's machine, for programs that go straight on to a halt.
 ghost use Rattle.std.specs.Prelude.{◌≡◌, ◌<◌, ◌≤◌, ℕ, List, length, false, suc, IfOk};
 ghost use Rattle.guest_text.specs.Straight.{IsStraight, IsStraightBody};
 ghost use Rattle.guest_text.specs.declared.instr.Func.{Func};
@@ -21,7 +21,7 @@ pub(crate) struct Machine<'a> {
     ghost within: { index < length main.now.body },
 }
 
-// What a profile names a function by.
+// Returns the entry that names a function in a profile.
 fn func_entry(func: &Func) -> Result<Entry, Memory>
     ensures { IfOk result (λ entry. entry ≡ func_entry func.now) }
 {
@@ -35,7 +35,7 @@ fn func_entry(func: &Func) -> Result<Entry, Memory>
 }
 
 impl<'a> Machine<'a> {
-    /// The machine before its first step.
+    /// Makes the machine before its first step.
     pub(crate) fn new(program: &'a Program) -> Machine<'a>
         requires { IsStraight program.now }
         ensures straight { IsStraightBody result.main.now.body }
@@ -53,14 +53,14 @@ impl<'a> Machine<'a> {
         }
     }
 
-    /// Whether the program has ended.
+    /// Returns whether the program has ended.
     pub(crate) fn has_halted(&self) -> bool
         ensures { result ≡ self.now.has_halted }
     {
         self.has_halted
     }
 
-    /// The functions on the stack, oldest first, each with the line at which it is.
+    /// Returns the functions on the stack, oldest first, each with the line at which it is.
     pub(crate) fn frames(&self, alloc: Global) -> Result<Sequence<ResolvedFrame>, Memory>
         ensures { IfOk result (λ found. (funcs : List Func) (steps : ℕ)
             → IsAfter funcs self.now.main.now self.now.index self.now.registers self.now.has_halted steps
@@ -74,7 +74,7 @@ impl<'a> Machine<'a> {
         Ok(frames)
     }
 
-    /// Does the next instruction.
+    /// Executes the next instruction.
     pub(crate) fn step(&mut self)
         requires going { self.old.has_halted ≡ false }
         requires straight { IsStraightBody self.old.main.now.body }

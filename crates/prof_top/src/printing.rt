@@ -21,7 +21,7 @@ fn end_word(cause: EndCause) -> &'static str
     }
 }
 
-// Adds the line of an end, and nothing of another entry.
+// Adds the line of an end, and nothing for another entry.
 fn put_end(alloc: Global, text: &mut String, entry: &ScheduleEntry) -> Result<(), AllocError>
     ensures { OnOk result (string_bytes text.new ≡ string_bytes text.old ++ end_line entry.now entry.now.what) }
 {
@@ -35,7 +35,7 @@ fn put_end(alloc: Global, text: &mut String, entry: &ScheduleEntry) -> Result<()
     }
 }
 
-// The line of the end.
+// Returns the line of the end.
 fn end_lines(alloc: Global, entries: &[ScheduleEntry]) -> Result<String, AllocError>
     ensures { IfOk result (λ text. string_bytes text ≡ flat_map (λ entry. end_line entry entry.what) entries.now) }
 {
@@ -46,7 +46,7 @@ fn end_lines(alloc: Global, entries: &[ScheduleEntry]) -> Result<String, AllocEr
     Ok(text)
 }
 
-// How many samples were taken.
+// Counts the samples that were taken.
 fn sampled(entries: &[ScheduleEntry]) -> usize
     ensures { result ≡ count_by (λ entry. is_sampled entry.what) entries.now }
 {
@@ -56,7 +56,7 @@ fn sampled(entries: &[ScheduleEntry]) -> usize
         .count()
 }
 
-// How many were dropped.
+// Counts the samples that were dropped.
 fn dropped(entries: &[ScheduleEntry]) -> usize
     ensures { result ≡ count_by (λ entry. is_dropped entry.what) entries.now }
 {
@@ -75,14 +75,14 @@ fn counts_line(alloc: Global, sampled: usize, dropped: usize) -> Result<String, 
     Ok(line)
 }
 
-// How many samples were taken, and how many were dropped.
+// Returns the line that says how many samples were taken and how many were dropped.
 fn samples_line(alloc: Global, entries: &[ScheduleEntry]) -> Result<String, AllocError>
     ensures { IfOk result (λ text. string_bytes text ≡ samples_line entries.now) }
 {
     counts_line(alloc, sampled(entries), dropped(entries))
 }
 
-/// The lines of a schedule.
+/// Returns the lines of a schedule.
 pub(crate) fn schedule_lines(alloc: Global, schedule: &Schedule) -> Result<String, AllocError>
     ensures { IfOk result (λ text. string_bytes text ≡ schedule_lines schedule.now.entries) }
 {
@@ -93,7 +93,7 @@ pub(crate) fn schedule_lines(alloc: Global, schedule: &Schedule) -> Result<Strin
     Ok(text)
 }
 
-/// These lines, and the line of the run's one file where that was delivered.
+/// Returns these lines, with the line of the run's one file where that was delivered.
 pub(crate) fn printed(
     alloc: Global,
     lines: &str,

@@ -35,7 +35,8 @@ pub(crate) struct RecordedRun {
     pub(crate) seen: Sequence<Seen>,
 }
 
-// The step clock asks for a sample at each multiple of the interval, from the first one on.
+// Returns whether the step clock asks for a sample after this many steps: it does for each multiple
+// of the interval, from the first one on.
 fn is_asked(step: u64, every: u32) -> bool
     requires { 1 ≤ every }
     ensures { result ≡ is_asked every step }
@@ -43,7 +44,7 @@ fn is_asked(step: u64, every: u32) -> bool
     step != 0 && step % u64::from(every) == 0
 }
 
-// What happens at a step, which is the time too.
+// Makes the entry of what happens at a step, which is the time too.
 fn entry_at(step: u64, what: What) -> ScheduleEntry
     requires { step < 2 ^ 53 }
     ensures { result ≡ entry_at step what }
@@ -52,7 +53,7 @@ fn entry_at(step: u64, what: What) -> ScheduleEntry
     ScheduleEntry { step, time, what }
 }
 
-// What the one session records.
+// Returns the options of the one session.
 fn whole_recording(every: u32) -> Options
     requires low { 1 ≤ every }
     requires high { every ≤ MAX_INTERVAL }
@@ -66,7 +67,7 @@ fn whole_recording(every: u32) -> Options
     }
 }
 
-// A tick of the machine after this many steps, which are the time too.
+// Takes a tick of the machine after this many steps, which are the time too.
 fn tick_at(
     alloc: Global,
     machine: &Machine<'_>,
@@ -96,7 +97,7 @@ struct Log {
     seen: Sequence<Seen>,
 }
 
-// The start of the session, before the first step, with its tick.
+// Starts the session before the first step, with its tick.
 fn start(alloc: Global, machine: &Machine<'_>, every: u32) -> Result<Log, Memory>
     requires low { 1 ≤ every }
     requires high { every ≤ MAX_INTERVAL }
@@ -141,7 +142,7 @@ fn take_sample(
     Ok(())
 }
 
-// A run that has ended after this many steps.
+// Ends the log of a run that has ended after this many steps.
 fn end(alloc: Global, log: Log, step: u64) -> Result<RecordedRun, Memory>
     requires early { step ≤ 4096 }
     requires room { length log.schedule.entries < log.schedule.limit }
@@ -162,8 +163,8 @@ fn end(alloc: Global, log: Log, step: u64) -> Result<RecordedRun, Memory>
     Ok(RecordedRun { schedule, seen })
 }
 
-/// Runs the program to its end, with one session that samples before each step at which the clock
-/// asks.
+/// Runs the program to its end, with one session. A sample is taken after s steps, for each s that
+/// is a multiple of the interval, from the interval on.
 pub(crate) fn record(alloc: Global, program: &Program, every: u32) -> Result<RecordedRun, Memory>
     requires low { 1 ≤ every }
     requires high { every ≤ MAX_INTERVAL }

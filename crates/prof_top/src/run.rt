@@ -24,7 +24,7 @@ use record_text::Schedule;
 use reference_profile::file;
 use std::alloc::Global;
 
-/// What has come of a call: how it ended, and the schedules of the runs that took place.
+/// The result of a call: how it ended, and the schedules of the runs that took place.
 #[derive(Debug, Drop)]
 pub(crate) struct Ran {
     pub(crate) ending: Ending,
@@ -35,13 +35,13 @@ pub(crate) struct Ran {
 #[derive(Debug, Drop)]
 struct Recorded {
     schedules: Sequence<Schedule>,
-    /// What is printed of it, but for its file.
+    /// What is printed of it, except for its file.
     lines: String,
     /// The text of the session's file.
     file: Sequence<u8>,
 }
 
-// The file of the one session.
+// Makes the file of the one session.
 fn session_file(
     alloc: Global,
     program: &Program,
@@ -58,7 +58,7 @@ fn session_file(
     Ok(text.unwrap())
 }
 
-// The run of the program, with what is printed of it and the text of its file.
+// Runs the program, and makes the lines that are printed of the run and the text of its file.
 fn record_run(alloc: Global, program: &Program, every: u32) -> Result<Recorded, Memory>
     requires low { 1 ≤ every }
     requires high { every ≤ MAX_INTERVAL }
@@ -78,7 +78,7 @@ fn record_run(alloc: Global, program: &Program, every: u32) -> Result<Recorded, 
     })
 }
 
-// How a run ends, by how its file was delivered and its text written.
+// Returns how a run ends, by how its file was delivered and its text written.
 fn run_ending(delivered: Result<(), Undelivered>, written: Result<(), SinkFault>) -> Ending
     ensures { result ≡ run_ending delivered written }
 {
@@ -90,7 +90,7 @@ fn run_ending(delivered: Result<(), Undelivered>, written: Result<(), SinkFault>
     }
 }
 
-// Prints the lines of a run, and the line of its file where that was delivered. Nothing is done once
+// Prints the lines of a run, and the line of its file if that was delivered. It does nothing once
 // memory has run out.
 fn print<O: Sink>(
     alloc: Global,
@@ -103,7 +103,7 @@ fn print<O: Sink>(
     ensures part { IsErrOf result SinkFault.Failed → AppendsPart (O.written out.old) (O.written out.new) (lines.now ++ flat_map file_line (delivered_of delivered file.now)) }
     ensures memory { IsErrOf result SinkFault.Memory → O.written out.new ≡ O.written out.old }
 
-    // A fault has its count, and the count never falls.
+    // Each fault is counted, and the count never falls.
     ensures failed { IsErrOf result SinkFault.Failed → Rose (O.faults out.old) (O.faults out.new) }
     ensures faults { O.faults out.old ≤ O.faults out.new }
 {
@@ -135,7 +135,7 @@ fn hand_out<S: OutputStream, O: Sink>(
         (outlets (S.parts stream.old) (S.aborts stream.old) (S.stream_faults stream.old) (O.written out.old) (O.faults out.old))
         (outlets (S.parts stream.new) (S.aborts stream.new) (S.stream_faults stream.new) (O.written out.new) (O.faults out.new)) }
 
-    // The stream's size of chunks stays, and no count falls.
+    // The stream's size of chunks stays the same, and no count falls.
     ensures chunk_size { S.chunk_bytes stream.new ≡ S.chunk_bytes stream.old }
     ensures aborts { S.aborts stream.old ≤ S.aborts stream.new }
     ensures stream_faults { S.stream_faults stream.old ≤ S.stream_faults stream.new }
@@ -171,7 +171,7 @@ pub(crate) fn run<S: OutputStream, O: Sink>(
     ensures no_parts { result.schedules ≡ [] → S.parts stream.new ≡ S.parts stream.old }
     ensures no_text { result.schedules ≡ [] → O.written out.new ≡ O.written out.old }
 
-    // The stream's size of chunks stays, and no count falls.
+    // The stream's size of chunks stays the same, and no count falls.
     ensures chunk_size { S.chunk_bytes stream.new ≡ S.chunk_bytes stream.old }
     ensures aborts { S.aborts stream.old ≤ S.aborts stream.new }
     ensures stream_faults { S.stream_faults stream.old ≤ S.stream_faults stream.new }

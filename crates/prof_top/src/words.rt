@@ -18,13 +18,13 @@ pub(crate) struct RunCommand {
 /// Why words were not taken as a command.
 #[derive(Clone, Copy, Debug, PartialEq, Eq)]
 pub(crate) enum WordsRefused {
-    /// They are no line of the command table.
+    /// They are not a line of the command table.
     Usage,
-    /// Memory was refused.
+    /// Out of memory.
     Memory,
 }
 
-// The name that a word spells.
+// Reads the name that a word spells.
 fn name(alloc: Global, word: &[u8]) -> Result<Text, WordsRefused>
     ensures ok { IfOk result (λ text. text ≡ word.now) }
     ensures named { OnOk result (IsName word.now) }
@@ -41,7 +41,7 @@ fn name(alloc: Global, word: &[u8]) -> Result<Text, WordsRefused>
     }
 }
 
-// The number whose decimal text the word is.
+// Reads the number whose decimal text the word is.
 fn decimal_number(word: &str) -> Option<u32>
     ensures spelled { IfSome result (λ number. word.now ≡ decimal number) }
     ensures only { (number : ℕ) → number < 2 ^ 32 → word.now ≡ decimal number → result ≡ Some number }
@@ -52,7 +52,7 @@ fn decimal_number(word: &str) -> Option<u32>
     }
 }
 
-// The number from 1 to `most` that a word spells.
+// Reads the number from 1 to `most` that a word spells.
 fn number(word: &str, most: u32) -> Option<u32>
     ensures spelled { IfSome result (λ number. (word.now ≡ decimal number) × (1 ≤ number) × (number ≤ most)) }
     ensures only { (number : ℕ) → 1 ≤ number → number ≤ most → word.now ≡ decimal number → result ≡ Some number }
@@ -63,7 +63,7 @@ fn number(word: &str, most: u32) -> Option<u32>
     }
 }
 
-// The command that three words spell.
+// Reads the command that three words spell.
 fn run_of(alloc: Global, verb: &str, program: &str, every: &str) -> Result<RunCommand, WordsRefused>
     ensures ok { IfOk result (λ run. IsRun (verb.now ∷ program.now ∷ every.now ∷ []) run.program run.every) }
     ensures usage { IsErrOf result WordsRefused.Usage → ¬ IsCommand (verb.now ∷ program.now ∷ every.now ∷ []) }
@@ -78,7 +78,7 @@ fn run_of(alloc: Global, verb: &str, program: &str, every: &str) -> Result<RunCo
     Ok(RunCommand { program, every })
 }
 
-/// The command that the words spell.
+/// Reads the command that the words spell.
 pub(crate) fn command(alloc: Global, words: &[String]) -> Result<RunCommand, WordsRefused>
     ensures ok { IfOk result (λ run. IsRun (map string_bytes words.now) run.program run.every) }
     ensures usage { IsErrOf result WordsRefused.Usage → ¬ IsCommand (map string_bytes words.now) }

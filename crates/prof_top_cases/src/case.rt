@@ -1,10 +1,10 @@
-// A case, as the file of cases spells it: a title, settings a line each, and the program's text after
-// a line `program`. In that text a line `*N LINE` stands for N copies of LINE, in which `@` is the
-// number of the copy, from 1.
+// A case, as it is written in the file of cases: a title, settings of one line each, and the
+// program's text after a line `program`. In that text a line `*N LINE` means N copies of LINE, in
+// which `@` is the number of the copy, from 1.
 use anyhow::{Result, bail};
 use std::alloc::Global;
 
-/// A call to make. Of the numbers of calls that fail, 0 means none.
+/// A call to make. A number of a failing call is 0 where no call fails.
 #[derive(Drop)]
 pub(crate) struct Case<'a> {
     pub(crate) title: &'a str,
@@ -12,7 +12,7 @@ pub(crate) struct Case<'a> {
     /// The name of the program's file.
     pub(crate) name: &'a str,
     pub(crate) program: String,
-    /// The stream's size of chunks.
+    /// The size of the stream's chunks.
     pub(crate) chunk: u32,
     pub(crate) chunk_fails: u64,
     pub(crate) chunk_aborts: u64,
@@ -59,7 +59,7 @@ fn push_line(alloc: Global, program: &mut String, line: &str) -> Result<()> {
     Ok(())
 }
 
-/// The case that a block of the file spells.
+/// Reads the case that a block of the file describes.
 pub(crate) fn case_of(alloc: Global, block: &str) -> Result<Case<'_>> {
     let mut case = Case {
         title: "",

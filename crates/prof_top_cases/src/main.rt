@@ -1,6 +1,6 @@
-//! Prints what comes of `cpuprof_once` for each case in the file `cases`: the parts as they are
-//! delivered, the status, the bytes that `out` and `err` got, and the schedule. `expected.py`, beside
-//! this crate's sources, works the same lines out from the rules alone.
+//! Prints the results of `cpuprof_once` for each case in the file `cases`: the parts as they are
+//! delivered, the status, the bytes that `out` and `err` got, and the schedule. `expected.py`,
+//! beside this crate's sources, works out the same lines from the rules alone.
 #![tactic(auto)]
 
 mod case;

@@ -30,8 +30,8 @@ impl Digest {
     }
 }
 
-/// Prints each part on a line of its own as it comes; of a long part the first bytes, and then its
-/// length and its hash. It fails or aborts at one chunk, by its number from 1.
+/// Prints each part on a line of its own as it comes. Of a long part it prints the first bytes, and
+/// then its length and its hash. It fails or aborts at one chunk, by its number from 1.
 #[derive(Drop)]
 pub(crate) struct Tape<R: Print + Drop> {
     rt: R,
@@ -47,7 +47,7 @@ pub(crate) struct Tape<R: Print + Drop> {
 }
 
 impl<R: Print + Drop> Tape<R> {
-    /// The stream of a case.
+    /// Makes the stream of a case.
     pub(crate) fn new(rt: R, case: &Case<'_>) -> Tape<R> {
         Tape {
             rt,

@@ -51,14 +51,14 @@ gcd_by_digits (suc digits) a b within =
     (λ rest. IsGcd-from_mod b (a % b) (gcd_within (digits_twice digits) (a % b) (b % (a % b)))
     (gcd_by_digits digits (a % b) (b % (a % b)) (remainder_halves b (a % b) (2 ^ digits) (above_zero (a % b) rest) smaller (omega (arith, within, pow-succ' 2 digits)))))))
 
--- the greatest common divisor is one
+-- `gcd` is a greatest common divisor
 pub gcd_is_greatest : (a b : ℕ) → IsGcd a b (gcd a b)
 gcd_is_greatest a b =
     cond_both (nat_lt b (2 ^ 128)) 256 (suc b) (λ times. IsGcd a b (gcd_within times a b))
     (λ within. gcd_by_digits 128 a b (ltb-true b (2 ^ 128) within))
     (λ wide. gcd_is (suc b) a b (omega arith))
 
--- one interval more
+-- the source interval after one more interval
 source_of_more : (base interval source next : ℕ) (prefix : List ℕ) → IsSourceInterval base prefix source → IsGcd source (rounded_of base interval) next → IsSourceInterval base (prefix ++ interval ∷ []) next
 source_of_more base interval source next prefix is divides =
     let longer = prefix ++ interval ∷ [] in

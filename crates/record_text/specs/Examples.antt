@@ -14,7 +14,7 @@ use Rattle.record_text.specs.ScheduleParts.{ScheduleParts}
 abbrev pub start_every : (interval : ℕ) → 1 ≤ interval → interval ≤ MAX_INTERVAL → What
 start_every interval low high = Start (record { port = 0; interval = interval; mode = Leaf; max_samples = None; low = low; high = high })
 
--- what came about at a step, with the step as its time in microseconds
+-- what happens at a step, with the step as its time in microseconds
 abbrev pub at : ℕ → What → ScheduleEntry
 at step what = record { step = step; time = step; what = what }
 
@@ -22,7 +22,7 @@ at step what = record { step = step; time = step; what = what }
 abbrev pub started : ScheduleEntry
 started = at 0 (start_every 1 (lit≤ tt) (lit≤ tt))
 
--- the ring has one place, and there are ten steps and five entries at most
+-- these entries, where the ring has one place and there are at most ten steps and five entries
 abbrev pub with_entries : List ScheduleEntry → ScheduleParts
 with_entries entries = record { base = 1; ring = 1; budget = 10; limit = 5; entries = entries }
 

@@ -15,7 +15,7 @@ pub record Running : Type 0 where
   pub port : ℕ
   pub interval : ℕ
 
--- the number of sessions that were started, and those that run, by rising number
+-- the number of sessions that were started, and those that run, in the order of their numbers
 pub record Course : Type 0 where
   pub started : ℕ
   pub running : List Running
@@ -24,7 +24,7 @@ pub record Course : Type 0 where
 abbrev pub none_yet : Course
 none_yet = record { started = 0; running = [] }
 
--- the sessions after one more entry; they are numbered by their starts, from 1
+-- the sessions after one more entry; they are numbered in the order of their starts, from 1
 abbrev pub course_after : Course → What → Course
 course_after course (Start options) =
     record {
@@ -56,7 +56,7 @@ abbrev pub is_end : What → Bool
 is_end (End cause) = true
 is_end other = false
 
--- the rule Order, of an entry and one before it: neither step nor time falls, nothing follows an end, only an end follows a sample at the same step, and the commands at one step come by rising port
+-- the rule Order, of an entry and one before it: neither step nor time falls, nothing follows an end, only an end follows a sample at the same step, and the commands at one step are in the order of their ports
 pub record MayStandBehind (entry before : ScheduleEntry) : Type 0 where
   pub step : before.step ≤ entry.step
   pub time : before.time ≤ entry.time
@@ -81,7 +81,7 @@ IsAtLastStep [] step = Unit {0}
 IsAtLastStep (entry ∷ []) step = entry.step ≡ step
 IsAtLastStep (entry ∷ next ∷ entries) step = IsAtLastStep (next ∷ entries) step
 
--- the rule Limit of an entry with this number that is no end: it leaves room for an end, and its step is below the budget
+-- the rule Limit of an entry with this number that is not an end: it leaves room for an end, and its step is below the budget
 abbrev pub LeavesRoom : ScheduleParts → ℕ → ℕ → Type 0
 LeavesRoom schedule number step = (number < schedule.limit) × (step < schedule.budget)
 

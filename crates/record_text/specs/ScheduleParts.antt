@@ -21,7 +21,7 @@ port_of (Start options) = Some options.port
 port_of (Stop port session) = Some port
 port_of other = None
 
--- the port of a command is one that there is
+-- the port of a command is one that exists
 abbrev pub HasPort : What → Type 0
 HasPort what = IfSome (port_of what) (λ port. port ≤ MAX_PORT)
 

@@ -34,6 +34,6 @@ source_for base running = source_of base (map (λ session. session.interval) run
 abbrev pub source_after : ScheduleParts → ℕ → ℕ
 source_after schedule number = source_for schedule.base (running_after (take number schedule.entries))
 
--- it is the common divisor that every common divisor divides
+-- `source_of` is the common divisor that every common divisor divides
 abbrev pub SourcesAreGreatest : Type 0
 SourcesAreGreatest = (base : ℕ) (intervals : List ℕ) → IsSourceInterval base intervals (source_of base intervals)

@@ -12,8 +12,8 @@ pub fn schedules_that_keep_the_rules_are_legal()
     ensures halted { IsLegalSchedule halted_with_room }
 {}
 
-/// A sample is taken for some session, alone at its step, and below the budget, and it is dropped only
-/// after as many were taken as the ring has places.
+/// A sample is taken for some session, alone at its step, and below the budget, and a sample is
+/// dropped only after at least as many were taken as the ring has places.
 pub fn samples_out_of_place_are_not_legal()
     ensures dropped { ¬ IsLegalSchedule dropped_with_room }
     ensures no_session { ¬ IsLegalSchedule sampled_for_no_session }
@@ -21,7 +21,8 @@ pub fn samples_out_of_place_are_not_legal()
     ensures at_budget { ¬ IsLegalSchedule sampled_at_its_budget }
 {}
 
-/// There is an end, nothing follows it, and its cause is `full` exactly where it takes the last place.
+/// A schedule has an end, nothing follows the end, and its cause is `full` exactly where it takes
+/// the last place.
 pub fn ends_out_of_place_are_not_legal()
     ensures full_early { ¬ IsLegalSchedule full_before_its_limit }
     ensures halted_last { ¬ IsLegalSchedule halted_at_its_limit }
@@ -44,7 +45,7 @@ pub fn the_source_interval_is_that_of_the_sessions_that_run()
     ensures second { source_after two_sessions 3 ≡ 3000 }
 {}
 
-/// The source interval of great intervals is computed too.
+/// The source interval of large intervals is computed too.
 pub fn great_intervals_have_a_common_divisor()
     ensures two { source_of 1 (1000000000 ∷ 30000000 ∷ []) ≡ 10000000 }
     ensures rounded { source_of 30000000 (1000000000 ∷ 30000000 ∷ []) ≡ 30000000 }

@@ -4,7 +4,7 @@ ghost use Rattle.record_text.specs.Source.{SourcesAreGreatest};
 
 use crate::limits::{DEFAULT_RING, MAX_BUDGET, MAX_ENTRIES, MAX_PORT, MAX_RING, MIN_ENTRIES};
 
-/// The ranges that contracts cite by name.
+/// States the ranges that contracts cite by name.
 pub fn limits()
     ensures ring { MAX_RING ≡ 1024 }
     ensures default_ring { DEFAULT_RING ≡ 256 }

@@ -1,5 +1,5 @@
-//! Records of runs. A schedule says what an isolate did and when: with the guest's program it gives
-//! the whole run.
+//! Records of runs. A schedule says what an isolate did and when: together with the guest's program
+//! it determines the whole run.
 #![tactic(auto)]
 
 pub mod examples;

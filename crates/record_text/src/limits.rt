@@ -3,7 +3,7 @@
 /// The greatest ring: at most this many samples wait to be taken. The least is 1.
 pub const MAX_RING: u32 = 1_024;
 
-/// The ring of a run that asks for no other.
+/// The ring of a run that does not ask for another.
 pub const DEFAULT_RING: u32 = 256;
 
 /// The greatest budget of steps. The least is 1.

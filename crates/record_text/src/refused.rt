@@ -7,21 +7,21 @@ pub enum LineCause {
     Word,
     /// A number is missing, or out of its range.
     Number,
-    /// The line may not stand after the lines before it.
+    /// The line may not follow the lines before it.
     Order,
     /// A session that does not run, or one too many.
     Session,
-    /// A limit of the record is passed.
+    /// A limit of the record is exceeded.
     Limit,
-    /// The guest's program does not come to this line.
+    /// The guest's program does not reach this line.
     Fit,
 }
 
-/// Why there is no reading of a text.
+/// Why a text cannot be read.
 #[derive(Clone, Copy, Debug, PartialEq, Eq)]
 pub enum ReadRefused {
     /// The first fault is at this line, counted from 1.
     At { line: u32, cause: LineCause },
-    /// Memory was refused.
+    /// Out of memory.
     Memory,
 }

@@ -22,7 +22,7 @@ pub enum EndCause {
     Budget,
     /// The schedule had no room for a further entry.
     Full,
-    /// Memory was refused.
+    /// Out of memory.
     Memory,
 }
 
@@ -50,9 +50,9 @@ pub struct ScheduleEntry {
     pub what: What,
 }
 
-/// A run of an isolate, by what the guest itself does not tell: with the guest's program it gives
-/// each sample and each file of the run. The memory for all entries up to the limit is taken when
-/// it is made.
+/// A run of an isolate, as far as the guest's program does not determine it: together with the
+/// program it determines each sample and each file of the run. The memory for all entries up to the
+/// limit is allocated when the schedule is made.
 #[derive(Debug, Drop)]
 pub struct Schedule {
     base: u32,
@@ -75,7 +75,7 @@ impl Model for Schedule {
 }
 
 impl Schedule {
-    /// A schedule with no entries. It takes the memory for `limit` entries.
+    /// Makes a schedule with no entries. It allocates the memory for `limit` entries.
     pub fn new(
         alloc: Global,
         base: u32,
@@ -103,8 +103,8 @@ impl Schedule {
         })
     }
 
-    /// The isolate's base interval in microseconds: each session's interval is rounded up to a
-    /// multiple of it.
+    /// Returns the isolate's base interval in microseconds: each session's interval is rounded up
+    /// to a multiple of it.
     pub fn base(&self) -> u32
         ensures base { result ≡ self.now.base }
         ensures low { 1 ≤ result }
@@ -113,7 +113,7 @@ impl Schedule {
         self.base
     }
 
-    /// The greatest number of samples that wait to be taken.
+    /// Returns the greatest number of samples that wait to be taken.
     pub fn ring(&self) -> u32
         ensures ring { result ≡ self.now.ring }
         ensures low { 1 ≤ result }
@@ -122,7 +122,7 @@ impl Schedule {
         self.ring
     }
 
-    /// The greatest number of steps.
+    /// Returns the greatest number of steps.
     pub fn budget(&self) -> u64
         ensures budget { result ≡ self.now.budget }
         ensures low { 1 ≤ result }
@@ -131,7 +131,7 @@ impl Schedule {
         self.budget
     }
 
-    /// The greatest number of entries.
+    /// Returns the greatest number of entries.
     pub fn limit(&self) -> u32
         ensures limit { result ≡ self.now.limit }
         ensures low { MIN_ENTRIES ≤ result }
@@ -140,7 +140,7 @@ impl Schedule {
         self.limit
     }
 
-    /// What came about, in order.
+    /// Returns what happened, in order.
     pub fn entries(&self) -> &[ScheduleEntry]
         ensures entries { result.now ≡ self.now.entries }
         ensures room { length result.now ≤ self.now.limit }
@@ -149,7 +149,7 @@ impl Schedule {
         self.entries.as_slice()
     }
 
-    /// Whether there is no room for a further entry.
+    /// Returns whether there is no room for a further entry.
     pub fn is_full(&self) -> bool
         ensures full { IsTrue result ↔ (length self.now.entries ≡ self.now.limit) }
         ensures room { result ≡ false → length self.now.entries < self.now.limit }
@@ -157,7 +157,7 @@ impl Schedule {
         self.entries.len() == self.limit as usize
     }
 
-    /// Adds an entry after the last one. It takes no memory. A command's port is at most
+    /// Adds an entry after the last one. It allocates nothing. A command's port is at most
     /// [`MAX_PORT`].
     pub fn enter(&mut self, entry: ScheduleEntry)
         requires room { length self.old.entries < self.old.limit }

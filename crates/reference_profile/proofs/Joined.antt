@@ -1,4 +1,4 @@
--- One item more in a list with commas between.
+-- One more item in a list with commas between.
 use Rattle.std.proofs.Common.{◌≡◌, ℕ, suc, zero, ◌+◌, ◌<◌, ◌≤◌, List, [], ◌∷◌, ◌++◌, length, take, map, get_or, refl, ap, sym, subst, ◌∙◌, arith}
 use Rattle.std.proofs.lemmas.List.{map_more, append_assoc, length-map, length-take-le}
 use Rattle.std.specs.List.{join_with_byte}
@@ -11,7 +11,7 @@ join-more [] text = refl
 join-more (one ∷ []) text = sym (append_assoc one (44 ∷ []) text)
 join-more (one ∷ other ∷ texts) text = rw (join-more (other ∷ texts) text) (simp append_assoc)
 
--- after as many texts as this
+-- one more text after this many texts
 pub join-at : (texts : List (List ℕ)) (at : ℕ) (text : List ℕ) → length texts ≡ at → join_with_byte 44 (texts ++ text ∷ []) ≡ join_with_byte 44 texts ++ comma_before at ++ text
 join-at texts at text e = rw (← e) (join-more texts text)
 

@@ -9,7 +9,7 @@ pub length-prefixes : {X : Type 0} (xs : List X) → length (prefixes xs) ≡ su
 length-prefixes [] = refl
 length-prefixes (x ∷ xs) = ap suc (length-map (prefixes xs) (λ prefix. x ∷ prefix) ∙ length-prefixes xs)
 
--- the last prefix is the whole
+-- the last prefix is the whole path
 pub prefixes-last : {X : Type 0} (xs : List X) → drop (length xs) (prefixes xs) ≡ xs ∷ []
 prefixes-last [] = refl
 prefixes-last (x ∷ xs) = drop-map (λ prefix. x ∷ prefix) (length xs) (prefixes xs) ∙ ap (map (λ prefix. x ∷ prefix)) (prefixes-last xs)
@@ -22,7 +22,7 @@ prefixes-drop (x ∷ xs) (suc n) h =
     drop-map (λ prefix. x ∷ prefix) n (prefixes xs) ∙ ap (map (λ prefix. x ∷ prefix)) (prefixes-drop xs n (omega arith))
     ∙ ap (λ rest. (x ∷ take n xs) ∷ rest) (sym (drop-map (λ prefix. x ∷ prefix) (suc n) (prefixes xs)))
 
--- the prefix that is one step shorter than those that are there
+-- one more prefix, which is one step shorter than those that were put
 pub put_prefix : (path : List PathStep) (set old new : List (List PathStep)) (len : ℕ) → 0 < len → len ≤ length path → old ≡ with_paths (drop len (prefixes path)) set → new ≡ insert_sorted path_cmp (take (len - 1) path) old → new ≡ with_paths (drop (len - 1) (prefixes path)) set
 put_prefix path set old new zero some few e f = absurd (omega arith)
 put_prefix path set old new (suc n) some few e f =

@@ -19,7 +19,7 @@ pub pick_yes : {X Y : Type 0} (f : X → Y) (p : X → Bool) (xs : List X) (i : 
 pick_yes f p xs i x old new y h e t o n g =
     n ∙ ap (λ ys. ys ++ y ∷ []) o ∙ ap (λ z. map f (filter p (take i xs)) ++ z ∷ []) (g ∙ ap f e) ∙ sym (picked_yes f p xs i x h (ap p (sym e) ∙ t))
 
--- the same number by one test as by the other
+-- numbers that are equal by one test are equal by the other
 pub equal-numbers : (number other : ℕ) → (other == number) ≡ true → is_eq (nat_cmp number other) ≡ true
 equal-numbers number other h = grind (arith, nat_tests, h)
 

@@ -23,14 +23,14 @@ sites_above_some most fewer units number site e h =
 abbrev pub with_above : List ResolvedFrame → LayoutParts → ℕ → ℕ → List ResolvedFrame
 with_above frames layout passed number = frames ++ frames_of_sites layout (sites_above (MAX_ABOVE - passed) layout.units number)
 
--- one unit is passed
+-- one more unit was passed
 pub with_above_some : (frames : List ResolvedFrame) (layout : LayoutParts) (passed number : ℕ) (site : Site) → passed < MAX_ABOVE → site_of layout.units number ≡ Some site → with_above frames layout passed number ≡ with_above (frames ++ unit_frame layout site.unit site.line) layout (passed + 1) site.unit
 with_above_some frames layout passed number site low h =
     let one_more : MAX_ABOVE - passed ≡ suc (MAX_ABOVE - (passed + 1)) = omega arith in
     ap (λ sites. frames ++ frames_of_sites layout sites) (sites_above_some (MAX_ABOVE - passed) (MAX_ABOVE - (passed + 1)) layout.units number site one_more h)
     ∙ sym (append_assoc frames (unit_frame layout site.unit site.line) (frames_of_sites layout (sites_above (MAX_ABOVE - (passed + 1)) layout.units site.unit)))
 
--- a unit that is not there adds nothing
+-- a unit that does not exist adds nothing
 pub unit_frame_none : (frames : List ResolvedFrame) (layout : LayoutParts) (number line : ℕ) → slice_get layout.units number ≡ None → frames ++ unit_frame layout number line ≡ frames
 unit_frame_none frames layout number line h =
     ap (λ u. frames ++ option_to_list (option_map (λ (u : CodeUnit). record { entry = u.entry; line = line }) u)) h ∙ append-nil frames

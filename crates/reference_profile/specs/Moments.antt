@@ -1,4 +1,4 @@
--- Moments of a run: the ranges and the reasons after what has come so far, and what is seen of an item then.
+-- Moments of a run: the ranges and the reasons after the items so far, and what is seen of an item then.
 use Rattle.std.specs.Prelude.{List, [], ◌∷◌}
 use Rattle.code_event.specs.CodeMap.{after_event}
 use Rattle.code_event.specs.DeoptReasons.{DeoptReasons, reasons_after_event}

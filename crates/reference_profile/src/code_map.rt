@@ -7,35 +7,35 @@ ghost use Rattle.code_event.specs.Symbolizer.{holds};
 use code_event::{CodeEvent, Entry, Layout, Range};
 use prof_base::{Memory, Sequence};
 
-/// The first address past the range. It may lie past 32 bits.
+/// Returns the first address past the range. It may be past 32 bits.
 fn end(range: &Range) -> u64
     ensures { result ≡ range.now.start + range.now.size }
 {
     u64::from(range.start) + u64::from(range.size)
 }
 
-/// Whether the ranges share an address.
+/// Returns whether the ranges share an address.
 fn meets(one: &Range, other: &Range) -> bool
     ensures { result ≡ meets one.now other.now }
 {
     u64::from(one.start) < end(other) && u64::from(other.start) < end(one)
 }
 
-/// Whether the address lies in the range.
+/// Returns whether the address is in the range.
 pub(crate) fn holds(range: &Range, address: u32) -> bool
     ensures { result ≡ holds address range.now }
 {
     range.start <= address && u64::from(address) < end(range)
 }
 
-/// The entry of the function that the code object is made for.
+/// Returns the entry of the function that the code object is made for.
 fn range_entry(range: &Range) -> Option<&Entry>
     ensures { option_copied result ≡ range_entry range.now }
 {
     range.layout.units().first().map(|unit| &unit.entry)
 }
 
-/// The code object of the layout that starts there.
+/// Makes the code object of the layout that starts at this address.
 fn range_of(start: u32, layout: Layout) -> Range
     ensures { result ≡ range_of start layout }
 {
@@ -46,7 +46,7 @@ fn range_of(start: u32, layout: Layout) -> Range
     }
 }
 
-/// The ranges that do not meet the new one, in order.
+/// Returns the ranges that do not meet the new one, in order.
 fn apart_from(ranges: Sequence<Range>, new: &Range) -> Sequence<Range>
     ensures { result ≡ filter (λ r. not (meets r new.now)) ranges }
 {
@@ -55,7 +55,7 @@ fn apart_from(ranges: Sequence<Range>, new: &Range) -> Sequence<Range>
     Sequence::from_vec(kept)
 }
 
-/// The ranges with a new one, which takes the place of each that it meets.
+/// Returns the ranges with a new one, which replaces each that it meets.
 fn with_range(ranges: Sequence<Range>, new: Range) -> Result<Sequence<Range>, Memory>
     ensures { IfOk result (λ all. all ≡ with_range ranges new) }
 {
@@ -64,14 +64,14 @@ fn with_range(ranges: Sequence<Range>, new: Range) -> Result<Sequence<Range>, Me
     Ok(kept)
 }
 
-/// The range that starts there.
+/// Finds the range that starts at this address.
 fn range_at(ranges: &[Range], start: u32) -> Option<&Range>
     ensures { option_copied result ≡ range_at ranges.now start }
 {
     ranges.iter().find(|range| range.start == start)
 }
 
-/// The ranges but the one that starts there.
+/// Returns the ranges except the one that starts at this address.
 fn without_range(ranges: Sequence<Range>, start: u32) -> Sequence<Range>
     ensures { result ≡ without_range ranges start }
 {
@@ -80,7 +80,7 @@ fn without_range(ranges: Sequence<Range>, start: u32) -> Sequence<Range>
     Sequence::from_vec(kept)
 }
 
-/// The entry of the function whose code object starts there.
+/// Finds the entry of the function whose code object starts at this address.
 pub(crate) fn entry_at(ranges: &[Range], start: u32) -> Option<&Entry>
     ensures { option_copied result ≡ option_and_then range_entry (range_at ranges.now start) }
 {
@@ -90,7 +90,7 @@ pub(crate) fn entry_at(ranges: &[Range], start: u32) -> Option<&Entry>
     }
 }
 
-/// The ranges after a code object has moved.
+/// Returns the ranges after a code object has moved.
 fn after_move(ranges: Sequence<Range>, from: u32, to: u32) -> Result<Sequence<Range>, Memory>
     ensures { IfOk result (λ after. after ≡ after_event ranges (CodeEvent.Move from to)) }
 {
@@ -103,7 +103,7 @@ fn after_move(ranges: Sequence<Range>, from: u32, to: u32) -> Result<Sequence<Ra
     }
 }
 
-/// The ranges after an event.
+/// Returns the ranges after an event.
 pub(crate) fn after_event(
     ranges: Sequence<Range>,
     event: &CodeEvent,

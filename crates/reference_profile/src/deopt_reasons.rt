@@ -6,7 +6,7 @@ use crate::code_map::entry_at;
 use code_event::{CodeEvent, DeoptReason, Range};
 use prof_base::{Memory, Sequence, Text};
 
-/// A list of the same reasons.
+/// Makes a list of the same reasons.
 pub(crate) fn copy_reasons(reasons: &Sequence<DeoptReason>) -> Result<Sequence<DeoptReason>, Memory>
     ensures { IfOk result (λ copy. copy ≡ reasons.now) }
 {
@@ -17,7 +17,7 @@ pub(crate) fn copy_reasons(reasons: &Sequence<DeoptReason>) -> Result<Sequence<D
     Ok(copies)
 }
 
-/// The reasons with a new one before the others.
+/// Puts a new reason before the others.
 fn with_latest(
     reasons: Sequence<DeoptReason>,
     latest: DeoptReason,
@@ -29,7 +29,8 @@ fn with_latest(
     Ok(Sequence::from_vec(all))
 }
 
-/// The reasons after the code object that starts there was said not to be optimised.
+/// Returns the reasons after the code object that starts at this address got this reason not to be
+/// optimised.
 fn with_reason_at(
     ranges: &[Range],
     reasons: Sequence<DeoptReason>,
@@ -50,7 +51,7 @@ fn with_reason_at(
     }
 }
 
-/// The reasons after an event, by the ranges before it.
+/// Returns the reasons after an event, by the ranges before it.
 pub(crate) fn reasons_after_event(
     ranges: &[Range],
     reasons: Sequence<DeoptReason>,

@@ -1,6 +1,7 @@
-//! The reference for profiles: plain functions that compute the definitions of `code_event`, from an
-//! item list to the bytes of a session's file. They are slow, and grow with the square of the number
-//! of nodes and ticks; the parts that run while the guest runs are held against the same definitions.
+//! The reference for profiles: plain functions that compute the definitions of `code_event`, from
+//! an item list to the bytes of a session's file. They are slow, and take time that grows with the
+//! square of the number of nodes and ticks; the parts that run while the guest runs have to meet
+//! the same definitions.
 #![tactic(auto)]
 
 mod code_map;

@@ -20,7 +20,7 @@ struct Moment {
     reasons: Sequence<DeoptReason>,
 }
 
-/// The moment after an item.
+/// Returns the moment after an item.
 fn after_item(moment: Moment, item: &Item) -> Result<Moment, Memory>
     ensures ranges { IfOk result (λ after. after.ranges ≡ ranges_after_item moment.ranges item.now) }
     ensures reasons { IfOk result (λ after. reasons_in after.reasons ≡ reasons_after_item moment.ranges (reasons_in moment.reasons) item.now) }
@@ -36,7 +36,7 @@ fn after_item(moment: Moment, item: &Item) -> Result<Moment, Memory>
     }
 }
 
-/// A tick over the ranges of its moment.
+/// Resolves a tick over the ranges of its moment.
 fn resolved_tick(alloc: Global, ranges: &[Range], tick: &Tick) -> Result<ResolvedTick, Memory>
     ensures { IfOk result (λ seen. seen ≡ resolved_tick ranges.now tick.now) }
 {
@@ -49,7 +49,7 @@ fn resolved_tick(alloc: Global, ranges: &[Range], tick: &Tick) -> Result<Resolve
     })
 }
 
-/// The mark of an event, if it is one.
+/// Returns the mark of an event, if it is one.
 fn mark_of(reasons: &Sequence<DeoptReason>, event: &CodeEvent) -> Result<Option<Seen>, Memory>
     ensures { IfOk result (λ seen_one. map seen_by (option_to_list seen_one) ≡ mark (reasons_in reasons.now) event.now) }
 {
@@ -81,7 +81,7 @@ fn mark_of(reasons: &Sequence<DeoptReason>, event: &CodeEvent) -> Result<Option<
     }
 }
 
-/// What is seen of an item, if anything is.
+/// Returns what is seen of an item, if anything is.
 fn seen_of(alloc: Global, moment: &Moment, item: &Item) -> Result<Option<Seen>, Memory>
     ensures { IfOk result (λ seen_one. map seen_by (option_to_list seen_one) ≡ seen_item moment.now.ranges (reasons_in moment.now.reasons) item.now) }
 {
@@ -109,8 +109,8 @@ fn push_seen(
     }
 }
 
-/// What is seen of an item list: each start, stop and finish, and each tick with the functions on its
-/// stack, in order.
+/// Returns what is seen of an item list: each start, stop and finish, and each tick with the
+/// functions on its stack, in order.
 pub fn seen_items(alloc: Global, items: &[Item]) -> Result<Sequence<Seen>, Memory>
     ensures { IfOk result (λ seen. map seen_by seen ≡ seen_items items.now) }
 {

@@ -23,7 +23,7 @@ fn path_step_cmp(one: &PathStep, other: &PathStep) -> Ordering
         .then(one.call_line.cmp(&other.call_line))
 }
 
-// By the first step that differs; a proper prefix comes first.
+// Compares paths by the first step that differs; a proper prefix comes first.
 fn path_cmp(one: &[PathStep], other: &[PathStep]) -> Ordering
     ensures { result ≡ path_cmp one.now other.now }
 {

@@ -53,7 +53,7 @@ fn path(alloc: Global, mode: Mode, frames: &[ResolvedFrame]) -> Result<Sequence<
     }
 }
 
-// The line of the last step, 0 for none.
+// Returns the line of the last step, or 0 where there is none.
 fn leaf_line(frames: &[ResolvedFrame]) -> u32
     ensures { result ≡ leaf_line frames.now }
 {
@@ -63,7 +63,7 @@ fn leaf_line(frames: &[ResolvedFrame]) -> u32
     }
 }
 
-// The ticks in the tree of their session.
+// Places the ticks in the tree of their session.
 fn visits(alloc: Global, mode: Mode, ticks: &[ResolvedTick]) -> Result<Sequence<Visit>, Memory>
     ensures { IfOk result (λ found. found ≡ visits_of mode ticks.now) }
 {
@@ -78,7 +78,7 @@ fn visits(alloc: Global, mode: Mode, ticks: &[ResolvedTick]) -> Result<Sequence<
     Ok(found)
 }
 
-// The ids of the ticks' nodes, in order.
+// Returns the ids of the ticks' nodes, in order.
 fn ids(
     alloc: Global,
     nodes: &[Sequence<PathStep>],
@@ -93,7 +93,7 @@ fn ids(
     Ok(found)
 }
 
-// How many of these samples are listed.
+// Returns how many of these samples are listed.
 fn listed(most: Option<u32>, count: usize) -> usize
     ensures within { result ≤ count }
     ensures value { result ≡ listed most count }
@@ -104,7 +104,7 @@ fn listed(most: Option<u32>, count: usize) -> usize
     }
 }
 
-// The ids of the samples that are listed.
+// Returns the ids of the samples that are listed.
 fn samples(
     alloc: Global,
     most: Option<u32>,
@@ -116,7 +116,7 @@ fn samples(
     ids(alloc, nodes, &visits[..listed(most, visits.len())])
 }
 
-// The microseconds from each tick to the one before it, and from the first to this time.
+// Returns the microseconds from each tick to the one before it, and from the first to this time.
 fn deltas(alloc: Global, start: Micros, ticks: &[ResolvedTick]) -> Result<Sequence<u64>, Memory>
     ensures { IfOk result (λ found. found ≡ deltas start (map (λ tick. tick.time) ticks.now)) }
 {
@@ -130,7 +130,7 @@ fn deltas(alloc: Global, start: Micros, ticks: &[ResolvedTick]) -> Result<Sequen
     Ok(found)
 }
 
-// The profile of kept ticks.
+// Makes the profile of kept ticks.
 fn profile_of(
     alloc: Global,
     session: SessionId,
@@ -168,8 +168,9 @@ fn profile_of(
     })
 }
 
-/// The finished profile of a session in what is seen, by the base that the isolate rounds intervals
-/// to; none where the session was not ended. More nodes than there are ids are out of memory.
+/// Returns the finished profile of a session in what is seen, by the base that the isolate rounds
+/// intervals to, or none where the session was not ended. It answers out of memory where there are
+/// more nodes than ids.
 pub fn finished_of(
     alloc: Global,
     base: u32,
@@ -189,8 +190,8 @@ pub fn finished_of(
     }
 }
 
-/// The file of a session in what is seen, by the base that the isolate rounds intervals to; none
-/// where the session was not ended.
+/// Returns the file of a session in what is seen, by the base that the isolate rounds intervals to,
+/// or none where the session was not ended.
 pub fn file(
     alloc: Global,
     base: u32,

@@ -16,7 +16,7 @@ fn put(out: &mut Vec<u8>, text: &str) -> Result<(), AllocError>
     out.extend_from_slice(text.as_bytes())
 }
 
-// A number that counts from 1, counted from 0, or -1 for 0.
+// Adds a number that counts from 1 as one that counts from 0, or -1 for 0.
 fn put_from_zero(out: &mut Vec<u8>, number: u32) -> Result<(), AllocError>
     ensures { OnOk result (out.new.items ≡ out.old.items ++ from_zero number) }
 {
@@ -35,7 +35,7 @@ fn put_string(alloc: Global, out: &mut Vec<u8>, text: &Text) -> Result<(), Alloc
     put(out, json.as_str())
 }
 
-// The comma before an item of a list, where it is not the first.
+// Adds the comma before an item of a list, if it is not the first.
 fn put_comma(out: &mut Vec<u8>, at: usize) -> Result<(), AllocError>
     ensures { OnOk result (out.new.items ≡ out.old.items ++ comma_before at) }
 {
@@ -96,7 +96,7 @@ impl ListItem for LineTicks {
     }
 }
 
-// A list in brackets.
+// Adds a list in brackets.
 fn put_list<T: ListItem>(out: &mut Vec<u8>, items: &[T]) -> Result<(), AllocError>
     ensures { OnOk result (out.new.items ≡ out.old.items ++ list_text (map T.text items.now)) }
 {
@@ -132,7 +132,7 @@ fn put_lines(out: &mut Vec<u8>, lines: &[LineTicks]) -> Result<(), AllocError>
     }
 }
 
-// A reason, unless it is empty.
+// Adds a reason, unless it is empty.
 fn put_some_reason(alloc: Global, out: &mut Vec<u8>, text: &Text) -> Result<(), AllocError>
     ensures { OnOk result (out.new.items ≡ out.old.items ++ reason_text (Some text.now)) }
 {
@@ -196,7 +196,7 @@ fn put_profile(alloc: Global, out: &mut Vec<u8>, profile: &Finished) -> Result<(
     put(out, "}")
 }
 
-/// The file of a finished profile.
+/// Writes the file of a finished profile.
 pub fn file_text(alloc: Global, profile: &Finished) -> Result<Sequence<u8>, Memory>
     ensures { IfOk result (λ text. text ≡ file_text profile.now) }
 {

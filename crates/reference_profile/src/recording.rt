@@ -31,7 +31,7 @@ pub(crate) fn copy_tick(alloc: Global, tick: &ResolvedTick) -> Result<ResolvedTi
     })
 }
 
-// Whether a tick is for a session: for all, or for that one.
+// Returns whether a tick is for a session: for all, or for that one.
 fn is_for(session: SessionId, only: Option<SessionId>) -> bool
     ensures { result ≡ is_for session.0 only }
 {
@@ -51,7 +51,7 @@ fn add_tick(begun: &mut Begun, session: SessionId, tick: &ResolvedTick) -> Resul
     Ok(())
 }
 
-// The session with one tick more, if it has begun and the tick is for it.
+// Adds a tick to the session, if it has begun and the tick is for it.
 fn ticked(
     begun: Option<Begun>,
     session: SessionId,
@@ -68,7 +68,7 @@ fn ticked(
     }
 }
 
-// The recording of a session that ends now, if it has begun.
+// Ends the recording of a session, if it has begun.
 fn ended(
     begun: Option<Begun>,
     end: Micros,
@@ -86,8 +86,8 @@ fn ended(
     }
 }
 
-/// The recording of a session in what is seen, from its last start to its first stop after that or to
-/// a finish; none where it was not ended.
+/// Returns the recording of a session in what is seen, from its last start to its first stop after
+/// that or to a finish, or none where it was not ended.
 pub(crate) fn recorded(
     alloc: Global,
     session: SessionId,

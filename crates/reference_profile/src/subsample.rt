@@ -8,7 +8,8 @@ use code_event::{Begun, ResolvedTick};
 use prof_base::{MAX_INTERVAL, Memory, Sequence, rounded};
 use std::alloc::Global;
 
-// The sum of the intervals after a tick of this one that is not kept, or none where the tick is due.
+// Returns the sum of the intervals after a tick of this interval that is not kept, or none where
+// the tick is due.
 fn sum_after(rounded: u32, interval: u32, since: Option<u64>) -> Option<u64>
     requires { IfSome since (λ sum. sum < 2 ^ 32) }
     ensures after { result ≡ sum_after rounded interval since }
@@ -27,7 +28,7 @@ fn sum_after(rounded: u32, interval: u32, since: Option<u64>) -> Option<u64>
     }
 }
 
-// The ticks that are kept of these, at a rounded interval.
+// Returns the ticks that are kept of these, at a rounded interval.
 fn kept_ticks(
     alloc: Global,
     rounded: u32,
@@ -53,8 +54,8 @@ fn kept_ticks(
     Ok(found)
 }
 
-/// The ticks that a recording keeps: each of interval 0, and each at which the intervals since the
-/// last that was kept with one above 0 reach the session's.
+/// Returns the ticks that a recording keeps: each of interval 0, and each at which the intervals
+/// since the last that was kept with one above 0 reach the session's.
 pub(crate) fn kept(
     alloc: Global,
     base: u32,

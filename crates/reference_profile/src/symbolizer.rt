@@ -11,7 +11,7 @@ use code_event::{Entry, Layout, Range, ResolvedFrame, SLOT_SIZE, Site, Slot, Tic
 use prof_base::{Memory, Sequence, Text, TextRefused};
 use std::alloc::Global;
 
-/// The unit with this number, if there is one.
+/// Returns the unit with this number, if there is one.
 fn unit_at(layout: &Layout, number: u16) -> Option<&Unit>
     ensures { option_copied result ≡ slice_get layout.now.units number }
 {
@@ -36,7 +36,7 @@ fn push_unit(
     }
 }
 
-/// Where the unit with this number was inlined, if it was.
+/// Returns where the unit with this number was inlined, if it was.
 fn site_of(layout: &Layout, number: u16) -> Option<Site>
     ensures { result ≡ site_of layout.now.units number }
 {
@@ -79,7 +79,7 @@ fn push_slot(
     push_units_above(frames, layout, slot.unit)
 }
 
-/// The slot of an address in a range.
+/// Returns the slot of an address in a range.
 fn slot_at(range: &Range, address: u32) -> Option<Slot>
     ensures { result ≡ slot_at address range.now }
 {
@@ -87,7 +87,7 @@ fn slot_at(range: &Range, address: u32) -> Option<Slot>
     range.layout.slots().get(place as usize).copied()
 }
 
-/// The range that an address lies in.
+/// Finds the range that an address is in.
 fn range_around(ranges: &[Range], address: u32) -> Option<&Range>
     ensures { option_copied result ≡ find (holds address) ranges.now }
 {
@@ -108,7 +108,7 @@ fn push_range_frames(
     }
 }
 
-/// Adds the functions at an address, if it is anybody's.
+/// Adds the functions at an address, if it is in a range.
 fn push_frames_at(
     frames: &mut Sequence<ResolvedFrame>,
     ranges: &[Range],
@@ -122,7 +122,7 @@ fn push_frames_at(
     }
 }
 
-/// Adds the functions at a return address: those of the call, which is right before it.
+/// Adds the functions at a return address: those of the call, which is directly before it.
 fn push_caller(
     frames: &mut Sequence<ResolvedFrame>,
     ranges: &[Range],
@@ -150,7 +150,7 @@ fn push_callers(
     Ok(())
 }
 
-/// The functions on a stack of addresses, both youngest first.
+/// Returns the functions on a stack of addresses, both youngest first.
 fn stack_frames(
     alloc: Global,
     ranges: &[Range],
@@ -166,7 +166,7 @@ fn stack_frames(
     Ok(frames)
 }
 
-/// The frames in reverse.
+/// Reverses the frames.
 fn reversed(frames: Sequence<ResolvedFrame>) -> Sequence<ResolvedFrame>
     ensures { result ≡ reverse frames }
 {
@@ -175,7 +175,7 @@ fn reversed(frames: Sequence<ResolvedFrame>) -> Sequence<ResolvedFrame>
     Sequence::from_vec(frames)
 }
 
-/// A text that is short and printable, so that memory alone may be refused.
+/// Makes a text of bytes that are few and printable, so that only memory may run out.
 fn text_of(alloc: Global, text: &str) -> Result<Text, Memory>
     requires { IsText text.now }
     ensures { IfOk result (λ copy. copy ≡ text.now) }
@@ -187,7 +187,7 @@ fn text_of(alloc: Global, text: &str) -> Result<Text, Memory>
     }
 }
 
-/// An entry that is no function, as V8 names it.
+/// Makes an entry that is not a function, as V8 names it.
 pub(crate) fn special(alloc: Global, name: &str) -> Result<Entry, Memory>
     requires { IsText name.now }
     ensures { IfOk result (λ entry. entry ≡ special name.now) }
@@ -201,7 +201,7 @@ pub(crate) fn special(alloc: Global, name: &str) -> Result<Entry, Memory>
     })
 }
 
-/// The one frame of a tick that names no function.
+/// Makes the one frame of a tick that names no function.
 fn special_frame(alloc: Global, name: &str) -> Result<Sequence<ResolvedFrame>, Memory>
     requires { IsText name.now }
     ensures { IfOk result (λ frames. frames ≡ special_frame name.now) }
@@ -212,7 +212,7 @@ fn special_frame(alloc: Global, name: &str) -> Result<Sequence<ResolvedFrame>, M
     Ok(frames)
 }
 
-/// These frames, or that of the program where there are none.
+/// Returns these frames, or the frame of the program where there are none.
 fn or_program(
     alloc: Global,
     frames: Sequence<ResolvedFrame>,
@@ -225,7 +225,7 @@ fn or_program(
     Ok(frames)
 }
 
-/// The resolved frames of a tick over these ranges, oldest first.
+/// Returns the resolved frames of a tick over these ranges, oldest first.
 pub(crate) fn frames_of(
     alloc: Global,
     ranges: &[Range],

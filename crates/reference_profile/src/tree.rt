@@ -22,7 +22,7 @@ fn copy_path(alloc: Global, path: &[PathStep]) -> Result<Sequence<PathStep>, Mem
     Ok(copy)
 }
 
-// The first place in a set at which there is the path itself or a later one.
+// Finds the first place in a set at which there is the path itself or a later one.
 fn path_place(set: &[Sequence<PathStep>], path: &[PathStep]) -> Option<usize>
     ensures { result ≡ position (stops path_cmp path.now) set.now }
 {
@@ -65,7 +65,7 @@ fn put_prefixes(
     Ok(())
 }
 
-/// The nodes of a tree: all prefixes of all paths, each once and in order.
+/// Returns the nodes of a tree: all prefixes of all paths, each once and in order.
 pub(crate) fn nodes(alloc: Global, visits: &[Visit]) -> Result<Vec<Sequence<PathStep>>, Memory>
     ensures { IfOk result (λ set. set.items ≡ nodes visits.now) }
 {
@@ -77,7 +77,8 @@ pub(crate) fn nodes(alloc: Global, visits: &[Visit]) -> Result<Vec<Sequence<Path
     Ok(set)
 }
 
-/// A node's id: one more than the nodes before it. More nodes than there are ids are out of memory.
+/// Returns a node's id: one more than the number of nodes before it. It answers out of memory where
+/// there are more nodes than ids.
 pub(crate) fn id_of(nodes: &[Sequence<PathStep>], node: &[PathStep]) -> Result<u32, Memory>
     ensures { IfOk result (λ id. id ≡ id_of nodes.now node.now) }
 {
@@ -91,21 +92,21 @@ pub(crate) fn id_of(nodes: &[Sequence<PathStep>], node: &[PathStep]) -> Result<u
     }
 }
 
-// Whether a tick is a hit of a node.
+// Returns whether a tick is a hit of a node.
 fn hits_node(node: &[PathStep], visit: &Visit) -> bool
     ensures { result ≡ hits_node node.now visit.now }
 {
     visit.hit && same_path(visit.path.as_slice(), node)
 }
 
-// How many hits a node has.
+// Returns how many hits a node has.
 fn hits(visits: &[Visit], node: &[PathStep]) -> u64
     ensures { result ≡ hits visits.now node.now }
 {
     visits.iter().filter(|visit| hits_node(node, visit)).count() as u64
 }
 
-// How many of them were at this line.
+// Returns how many of a node's hits were at this line.
 fn hits_at(visits: &[Visit], node: &[PathStep], line: u32) -> u64
     ensures { result ≡ hits_at visits.now node.now line }
 {
@@ -115,7 +116,7 @@ fn hits_at(visits: &[Visit], node: &[PathStep], line: u32) -> u64
         .count() as u64
 }
 
-// Whether a node is right below another.
+// Returns whether a node is directly below another.
 fn is_below(parent: &[PathStep], node: &[PathStep]) -> bool
     ensures { result ≡ is_below parent.now node.now }
 {
@@ -125,7 +126,7 @@ fn is_below(parent: &[PathStep], node: &[PathStep]) -> bool
     node.len() - parent.len() == 1 && same_path(&node[..parent.len()], parent)
 }
 
-// The ids of the nodes right below one, in order.
+// Returns the ids of the nodes directly below one, in order.
 fn children(
     alloc: Global,
     nodes: &[Sequence<PathStep>],
@@ -142,14 +143,14 @@ fn children(
     Ok(ids)
 }
 
-// The first place in a set of numbers at which there is the number itself or a greater one.
+// Finds the first place in a set of numbers at which there is the number itself or a greater one.
 fn number_place(numbers: &[u32], number: u32) -> Option<usize>
     ensures { result ≡ position (stops nat_cmp number) numbers.now }
 {
     numbers.iter().position(|other| number.cmp(other).is_le())
 }
 
-// Puts a number into a set of numbers, each once and rising.
+// Puts a number into a set of numbers, each once and in rising order.
 fn put_number(numbers: &mut Vec<u32>, number: u32) -> Result<(), Memory>
     ensures { OnOk result (numbers.new.items ≡ insert_sorted nat_cmp number numbers.old.items) }
 {
@@ -164,7 +165,7 @@ fn put_number(numbers: &mut Vec<u32>, number: u32) -> Result<(), Memory>
     Ok(())
 }
 
-// The lines above 0 of a node's hits, each once and rising.
+// Returns the lines above 0 of a node's hits, each once and in rising order.
 fn hit_lines(alloc: Global, visits: &[Visit], node: &[PathStep]) -> Result<Vec<u32>, Memory>
     ensures { IfOk result (λ lines. lines.items ≡ hit_lines visits.now node.now) }
 {
@@ -178,7 +179,7 @@ fn hit_lines(alloc: Global, visits: &[Visit], node: &[PathStep]) -> Result<Vec<u
     Ok(lines)
 }
 
-// The hits of a node by its lines.
+// Returns the hits of a node by its lines.
 fn line_ticks(
     alloc: Global,
     visits: &[Visit],
@@ -197,7 +198,7 @@ fn line_ticks(
     Ok(ticks)
 }
 
-// What a node is named by: its last step, or the root.
+// Returns what a node is named by: its last step, or the root.
 fn node_entry(alloc: Global, node: &[PathStep]) -> Result<Entry, Memory>
     ensures { IfOk result (λ entry. entry ≡ node_entry node.now) }
 {
@@ -217,7 +218,7 @@ fn same_entry(one: &Entry, other: &Entry) -> bool
         && one.column == other.column
 }
 
-// The reason of an entry, which is the first that the list has of it.
+// Returns the reason of an entry: the first that the list has for it.
 fn reason_of(reasons: &[DeoptReason], entry: &Entry) -> Result<Option<Text>, Memory>
     ensures { IfOk result (λ reason. reason ≡ reasons_in reasons.now entry.now) }
 {
@@ -249,7 +250,7 @@ fn fin_node(
     })
 }
 
-/// The finished nodes, in order, with the reasons of which the first of an entry counts.
+/// Returns the finished nodes, in order, with the reasons in a list: the first of an entry counts.
 pub(crate) fn fin_nodes(
     alloc: Global,
     nodes: &[Sequence<PathStep>],

@@ -1,8 +1,8 @@
 // Laws of events, items and ticks.
 ghost use Rattle.code_event.specs.Laws.{AddressesHaveOneOwner, KeptTicksAreTheirOwn, MeetingIsMutual, RangesAreDisjoint, RecordingsAreTheirOwn, StampedListsAreOne, StampingGivesStamps, StampingKeepsStamped};
 
-/// No two code objects ever share an address: none meets one after it in the list, meeting goes both
-/// ways, and each address is in at most one.
+/// No two code objects ever share an address: none meets one after it in the list, meeting is
+/// mutual, and each address is in at most one.
 pub fn ranges_are_disjoint()
     ensures disjoint { RangesAreDisjoint }
     ensures both_ways { MeetingIsMutual }
@@ -14,8 +14,8 @@ pub fn stamping_gives_stamps()
     ensures { StampingGivesStamps }
 {}
 
-/// The rest of a stamped list determines its stamps: stamping it again changes nothing, and
-/// two stamped lists that agree but for their stamps are one.
+/// The rest of a stamped list determines its stamps: stamping it again changes nothing, and two
+/// stamped lists that agree except in their stamps are equal.
 pub fn stamps_are_unique()
     ensures kept { StampingKeepsStamped }
     ensures one { StampedListsAreOne }

@@ -2,7 +2,7 @@ use Rattle.std.proofs.Common.{ℕ, ◌≡◌, ◌<◌, List, [], ◌++◌, lengt
 use Rattle.std.proofs.lemmas.List.{length-take, take_all}
 use Rattle.prof_outer.proofs.real.read_whole.Goals as goal
 
--- fewer bytes than were asked for are all that there are
+-- a read that got fewer bytes than it asked for got all that there are
 all_read : (remaining : Option (List ℕ)) (limit : ℕ) (start bytes : List ℕ) → start ≡ [] → IfSome (option_map (take limit) remaining) (λ xs. bytes ≡ start ++ xs) → length bytes < limit → IfSome remaining (λ all. bytes ≡ all)
 all_read None limit start bytes none read short = tt
 all_read (Some all) limit start bytes none read short =
