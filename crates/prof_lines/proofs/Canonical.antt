@@ -6,7 +6,8 @@ use Rattle.prof_lines.specs.declared.fault.Cause.{Cause}
 use Rattle.prof_lines.specs.Lines.{lines_of, is_passed, counted_from, counted}
 use Rattle.prof_lines.specs.Spelled.{Stops, HasWords}
 use Rattle.prof_lines.specs.Canonical.{further, joined, line_of, text_of, begins_line, is_one_line, IsLine}
-use Rattle.prof_lines.specs.Values.{EachIsSpelled, Keeps, Spells}
+use Rattle.prof_lines.specs.Forms.{Wording}
+use Rattle.prof_lines.specs.Values.{Fitting, Rules, EachIsSpelled, Keeps, Spells}
 
 pub lines_of-line : (line rest : List ℕ) → is_one_line line ≡ true → lines_of (line ++ 10 ∷ rest) ≡ line ∷ lines_of rest
 lines_of-line [] rest h = refl
@@ -29,7 +30,7 @@ pub joined_has : (words : List (List ℕ)) → HasWords words (joined words)
 joined_has [] = (0, refl)
 joined_has (word ∷ words) = (further words, record { before = 0; is = refl; stops = further_stops words }, further_has words)
 
-canonical_from : {V : Type 0} (words : V → List (List ℕ)) (number : ℕ) (values : List V) → AllByRecursion (λ value. IsLine (words value)) values
+canonical_from : {V : Type 0} (words : Wording V) (number : ℕ) (values : List V) → AllByRecursion (λ value. IsLine (words value)) values
     → EachIsSpelled words values (counted_from number (lines_of (text_of words values)))
 canonical_from words number [] h = tt
 canonical_from words number (value ∷ values) h =
@@ -38,16 +39,19 @@ canonical_from words number (value ∷ values) h =
     rw (split, lines_of-line line (text_of words values) h.0.one_line, is_not_passed line h.0.begins) (joined_has (words value), canonical_from words (number + 1) values h.1)
 
 -- the lines of the canonical text of values spell each of them
-pub canonical : {V : Type 0} (words : V → List (List ℕ)) (values : List V) → AllByRecursion (λ value. IsLine (words value)) values → EachIsSpelled words values (counted (text_of words values))
+pub canonical : {V : Type 0} (words : Wording V) (values : List V) → AllByRecursion (λ value. IsLine (words value)) values → EachIsSpelled words values (counted (text_of words values))
 canonical words values h = canonical_from words 1 values h
 
--- values that fit have canonical lines, where each one that fits does
-all_lines : {V C : Type 0} (Fits : List V → V → Type 0) (words : V → List (List ℕ)) (fault : List V → V → Option (Cause C)) → ((before : List V) (value : V) → Fits before value → IsLine (words value))
+-- each value that fits has a canonical line
+abbrev pub HaveLines : {V : Type 0} → Fitting V → Wording V → Type 0
+HaveLines {V = V} Fits words = (before : List V) (value : V) → Fits before value → IsLine (words value)
+
+all_lines : {V C : Type 0} (Fits : Fitting V) (words : Wording V) (fault : Rules V C) → HaveLines Fits words
     → (before values : List V) → Keeps Fits fault before values → AllByRecursion (λ value. IsLine (words value)) values
 all_lines Fits words fault each before [] h = tt
 all_lines Fits words fault each before (value ∷ values) h = (each before value h.0, all_lines Fits words fault each (before ++ value ∷ []) values h.2)
 
 -- the lines of the canonical text of values that keep the rules spell them
-pub canonical_spells : {V C : Type 0} (Fits : List V → V → Type 0) (words : V → List (List ℕ)) (fault : List V → V → Option (Cause C)) → ((before : List V) (value : V) → Fits before value → IsLine (words value))
+pub canonical_spells : {V C : Type 0} (Fits : Fitting V) (words : Wording V) (fault : Rules V C) → HaveLines Fits words
     → (values : List V) → Keeps Fits fault [] values → Spells Fits words fault [] values (counted (text_of words values))
 canonical_spells Fits words fault each values h = (h, canonical words values (all_lines Fits words fault each [] values h))

@@ -10,7 +10,7 @@ empty_from : (bytes : List ℕ) → (length bytes == 0) ≡ true → bytes ≡ [
 empty_from [] h = refl
 empty_from (b ∷ bytes) h = absurd (omega (arith, eqb-true (length (b ∷ bytes)) 0 h))
 
-after_spaces-all : (n : ℕ) → after_spaces (spaces n) ≡ []
+pub after_spaces-all : (n : ℕ) → after_spaces (spaces n) ≡ []
 after_spaces-all zero = refl
 after_spaces-all (suc n) = after_spaces-all n
 

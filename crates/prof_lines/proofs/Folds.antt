@@ -1,9 +1,9 @@
 -- Reading line by line stops at the first fault.
-use Rattle.std.proofs.Common.{◌≡◌, ℕ, List, [], ◌∷◌, Result, Ok, Err, refl, sym, ap, ◌∙◌, inl, inr}
+use Rattle.std.proofs.Common.{◌≡◌, ℕ, List, [], ◌∷◌, ◌++◌, Result, Ok, Err, refl, sym, ap, ◌∙◌, inl, inr, ◌↔◌}
 use Rattle.prof_lines.specs.Answers.{◌>>=◌}
 use Rattle.prof_lines.specs.Lines.{counted, number_after}
-use Rattle.prof_lines.specs.Folds.{placed, read_lines, read_text, IsFirstFault, IsTextFault}
-use Rattle.prof_lines.proofs.Steps.{ok_same}
+use Rattle.prof_lines.specs.Folds.{placed, read_lines, read_text, IsFirstFault, IsEndFault, IsTextFault}
+use Rattle.prof_lines.proofs.Steps.{ok_same, bind_ok}
 
 pub placed_ok : {A C : Type 0} (number : ℕ) (r : Result A C) (x : A) → placed number r ≡ Ok x → r ≡ Ok x
 placed_ok {A = A} {C = C} number (Ok y) x h = let e : y ≡ x = ok_same y x h in ap (λ (z : A). Ok z) e
@@ -55,3 +55,26 @@ text_fault_by read end start text place (Err at) e h = let same : at ≡ place =
 -- a text is refused at its first line at fault, or else at its end
 pub text_fault : {S V C : Type 0} (read : S → List ℕ → Result S C) (end : S → Result V C) (start : S) (text : List ℕ) (place : ℕ × C) → read_text read end start text ≡ Err place → IsTextFault read end start text place
 text_fault read end start text place h = text_fault_by read end start text place (read_lines read start (counted text)) refl h
+
+-- lines after others are read in the state that these leave
+pub read_lines-append : {S C : Type 0} (read : S → List ℕ → Result S C) (start state : S) (before after : List (ℕ × List ℕ)) → read_lines read start before ≡ Ok state
+    → read_lines read start (before ++ after) ≡ read_lines read state after
+read_lines-append {S = S} read start state [] after h = ap (λ (z : S). read_lines read z after) (ok_same start state h)
+read_lines-append read start state (line ∷ before) after h =
+    let a = bind_ok (placed line.0 (read start line.1)) _ _ h in
+    rw a.1 (read_lines-append read a.0 state before after a.2)
+
+fault_again : {S C : Type 0} (read : S → List ℕ → Result S C) (start : S) (lines : List (ℕ × List ℕ)) (place : ℕ × C) → IsFirstFault read start lines place → read_lines read start lines ≡ Err place
+fault_again read start lines place f =
+    let at_fault : read_lines read f.state (f.line ∷ f.after) ≡ Err place = rw (f.fault, f.number) refl in
+    rw f.are (read_lines-append read start f.state f.before (f.line ∷ f.after) f.reads ∙ at_fault)
+
+pub first_fault_iff : {S C : Type 0} (read : S → List ℕ → Result S C) (start : S) (lines : List (ℕ × List ℕ)) (place : ℕ × C) → (read_lines read start lines ≡ Err place) ↔ IsFirstFault read start lines place
+first_fault_iff read start lines place = (first_fault read start lines place, fault_again read start lines place)
+
+text_again : {S V C : Type 0} (read : S → List ℕ → Result S C) (end : S → Result V C) (start : S) (text : List ℕ) (place : ℕ × C) → IsTextFault read end start text place → read_text read end start text ≡ Err place
+text_again read end start text place (inl f) = rw (fault_again read start (counted text) place f) refl
+text_again read end start text place (inr f) = rw (f.1, f.2, ← f.3) refl
+
+pub text_fault_iff : {S V C : Type 0} (read : S → List ℕ → Result S C) (end : S → Result V C) (start : S) (text : List ℕ) (place : ℕ × C) → (read_text read end start text ≡ Err place) ↔ IsTextFault read end start text place
+text_fault_iff read end start text place = (text_fault read end start text place, text_again read end start text place)

@@ -13,3 +13,10 @@ pub mod QuotedForms
 pub mod Steps
 pub mod Unquoting
 pub mod Values
+pub mod Causes
+pub mod Chains
+pub mod PlaceFaults
+pub mod EndFaults
+pub mod Missing
+pub mod LineLaws
+pub mod Refusals

@@ -1,18 +1,22 @@
 -- A plain word that comes next is read, and what is read as one comes next.
 use Rattle.std.proofs.Common.{◌≡◌, ℕ, zero, suc, ◌≤◌, ◌<◌, List, [], ◌∷◌, ◌++◌, length, take, drop, Bool, true, false, cond, not, ◌||◌, ◌==◌, Ok, refl, sym, ap, ◌∙◌, arith, subst, bytes_eq}
 use Rattle.std.specs.List.{list_all}
-use Rattle.std.proofs.lemmas.Bool.{and_parts, not-false, or_parts, eqb-true, ne_eqb}
+use Rattle.std.proofs.lemmas.Bool.{and_parts, not-true, not-false, or_parts, eqb-true, ne_eqb}
 use Rattle.std.proofs.lemmas.Bool.Decides.{nat_tests}
 use Rattle.std.proofs.lemmas.List.{take_at, drop_at, take-append-drop, length-take-le}
 use Rattle.std.proofs.lemmas.Slice.Eq.{bytes_eq-Decides}
 use Rattle.prof_lines.specs.Answers.{Front}
-use Rattle.prof_lines.specs.Words.{after_spaces, len_before, is_plain, word_at, fixed_at}
+use Rattle.prof_lines.specs.Words.{after_spaces, len_before, is_no_space, is_plain, word_at, fixed_at}
 use Rattle.prof_lines.specs.Spelled.{spaces, Stops, BeginsWith, IsWord}
 use Rattle.prof_lines.specs.Forms.{IsPlace}
 use Rattle.prof_lines.proofs.Steps.{bind_ok, ok_same, guard_ok, guard_not}
 
-plain_no_space : (b : ℕ) → is_plain b ≡ true → (b == 32) ≡ false
-plain_no_space b h = grind (arith, nat_tests)
+no_space : (b : ℕ) → is_plain b ≡ true → is_no_space b ≡ true
+no_space b h = grind (arith, nat_tests)
+
+plain_no_spaces : (word : List ℕ) → list_all is_plain word ≡ true → list_all is_no_space word ≡ true
+plain_no_spaces [] h = refl
+plain_no_spaces (b ∷ word) h = let f = and_parts (is_plain b) (list_all is_plain word) h in rw (no_space b f.0, plain_no_spaces word f.1) refl
 
 pub not_none : (n : ℕ) → 0 < n → (n == 0) ≡ false
 not_none n h = ne_eqb n 0 (λ e. omega (arith, h, e))
@@ -21,27 +25,30 @@ pub after_spaces-spaces : (n : ℕ) (bytes : List ℕ) → after_spaces (spaces 
 after_spaces-spaces zero bytes = refl
 after_spaces-spaces (suc n) bytes = after_spaces-spaces n bytes
 
-pub after_spaces-word : (word rest : List ℕ) → IsWord word → after_spaces (word ++ rest) ≡ word ++ rest
-after_spaces-word [] rest h = absurd (omega (arith, h.some))
-after_spaces-word (b ∷ word) rest h = rw (plain_no_space b (and_parts (is_plain b) (list_all is_plain word) h.plain).0) refl
+after_spaces-next : (next rest : List ℕ) → 0 < length next → list_all is_no_space next ≡ true → after_spaces (next ++ rest) ≡ next ++ rest
+after_spaces-next [] rest some h = absurd (omega (arith, some))
+after_spaces-next (b ∷ next) rest some h = rw (not-true (b == 32) (and_parts (is_no_space b) (list_all is_no_space next) h).0) refl
 
--- the word that comes next stands after the spaces
+-- bytes without a space that come next stand after the spaces
+pub next_after_spaces : (next rest bytes : List ℕ) → 0 < length next → list_all is_no_space next ≡ true → BeginsWith next rest bytes → after_spaces bytes ≡ next ++ rest
+next_after_spaces next rest bytes some h s = ap after_spaces s.is ∙ after_spaces-spaces s.before (next ++ rest) ∙ after_spaces-next next rest some h
+
 pub word_is_next : (word rest bytes : List ℕ) → IsWord word → BeginsWith word rest bytes → after_spaces bytes ≡ word ++ rest
-word_is_next word rest bytes h s = ap after_spaces s.is ∙ after_spaces-spaces s.before (word ++ rest) ∙ after_spaces-word word rest h
+word_is_next word rest bytes h s = next_after_spaces word rest bytes h.some (plain_no_spaces word h.plain) s
 
-len_before-word : (word rest : List ℕ) → list_all is_plain word ≡ true → Stops rest → len_before 32 (word ++ rest) ≡ length word
-len_before-word [] [] h s = refl
-len_before-word [] (b ∷ rest) h s = rw s refl
-len_before-word (b ∷ word) rest h s =
-    let f = and_parts (is_plain b) (list_all is_plain word) h in
-    rw (plain_no_space b f.0) (ap suc (len_before-word word rest f.1 s))
+pub len_before-next : (next rest : List ℕ) → list_all is_no_space next ≡ true → Stops rest → len_before 32 (next ++ rest) ≡ length next
+len_before-next [] [] h s = refl
+len_before-next [] (b ∷ rest) h s = rw s refl
+len_before-next (b ∷ next) rest h s =
+    let f = and_parts (is_no_space b) (list_all is_no_space next) h in
+    rw (not-true (b == 32) f.0) (ap suc (len_before-next next rest f.1 s))
 
 pub word_again : {C : Type 0} (word rest bytes : List ℕ) → IsWord word → BeginsWith word rest bytes → word_at {C = C} bytes ≡ Ok (word, rest)
 unfolding word_at
 word_again word rest bytes h s =
     rw (
       word_is_next word rest bytes h s,
-      len_before-word word rest h.plain s.stops,
+      len_before-next word rest (plain_no_spaces word h.plain) s.stops,
       take_at word rest (length word) refl,
       drop_at word rest (length word) refl,
       h.plain,
@@ -63,7 +70,7 @@ stop_by b true bytes e h = eqb-true b 32 e
 stop_by b false bytes e h = h
 
 -- a word ends before a space or the end of the line
-stops_after : (bytes : List ℕ) → Stops (drop (len_before 32 bytes) bytes)
+pub stops_after : (bytes : List ℕ) → Stops (drop (len_before 32 bytes) bytes)
 stops_after [] = tt
 stops_after (b ∷ bytes) = stop_by b (b == 32) bytes refl (stops_after bytes)
 

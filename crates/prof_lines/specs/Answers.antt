@@ -12,6 +12,14 @@ abbrev pub ◌>>=◌ : {A B E : Type 0} → Result A E → (A → Result B E) �
 (Ok x) >>= next = next x
 (Err e) >>= next = Err e
 
+-- a reader, and then one that reads on from what it gives
+abbrev pub followed : {A B E : Type 0} → (List ℕ → Result A E) → (A → Result B E) → List ℕ → Result B E
+followed read next bytes = read bytes >>= next
+
+-- a reader of bytes of a line
+abbrev pub Reader : Type 0 → Type 0 → Type 0
+Reader B C = List ℕ → Result B (Cause C)
+
 -- a value that was read, and the bytes of the line after it
 abbrev pub Front : Type 0 → Type 0
 Front A = A × List ℕ

@@ -19,6 +19,10 @@ after_spaces (b ∷ bytes) = if b == 32 then after_spaces bytes else b ∷ bytes
 abbrev pub is_end : List ℕ → Bool
 is_end bytes = length (after_spaces bytes) == 0
 
+-- a byte other than a space
+abbrev pub is_no_space : ℕ → Bool
+is_no_space b = not (b == 32)
+
 -- a byte of a plain word: from 0x21 to 0x7E, but not `"`
 abbrev pub is_plain : ℕ → Bool
 is_plain b = nat_le 0x21 b && nat_le b 0x7E && not (b == 34)
