@@ -1,13 +1,14 @@
 -- The lines of a canonical text spell its values.
-use Rattle.std.proofs.Common.{◌≡◌, ℕ, ◌+◌, List, [], ◌∷◌, ◌++◌, true, false, not, ◌||◌, ◌==◌, Option, refl, append_assoc}
+use Rattle.std.proofs.Common.{◌≡◌, ℕ, ◌+◌, List, [], ◌∷◌, ◌++◌, true, false, not, ◌||◌, ◌==◌, Ok, refl, append_assoc}
 use Rattle.std.specs.List.{AllByRecursion}
 use Rattle.std.proofs.lemmas.Bool.{and_parts, or_parts, not-true}
-use Rattle.prof_lines.specs.declared.fault.Cause.{Cause}
 use Rattle.prof_lines.specs.Lines.{lines_of, is_passed, counted_from, counted}
 use Rattle.prof_lines.specs.Spelled.{Stops, HasWords}
 use Rattle.prof_lines.specs.Canonical.{further, joined, line_of, text_of, begins_line, is_one_line, IsLine}
 use Rattle.prof_lines.specs.Forms.{Wording}
-use Rattle.prof_lines.specs.Values.{Fitting, Rules, EachIsSpelled, Keeps, Spells}
+use Rattle.prof_lines.specs.Folds.{read_lines}
+use Rattle.prof_lines.specs.Values.{LineReader, Fitting, Rules, HaveForms, HaveLines, next_value, EachIsSpelled, Keeps, Spells}
+use Rattle.prof_lines.proofs.Values.{values_again}
 
 pub lines_of-line : (line rest : List ℕ) → is_one_line line ≡ true → lines_of (line ++ 10 ∷ rest) ≡ line ∷ lines_of rest
 lines_of-line [] rest h = refl
@@ -42,10 +43,6 @@ canonical_from words number (value ∷ values) h =
 pub canonical : {V : Type 0} (words : Wording V) (values : List V) → AllByRecursion (λ value. IsLine (words value)) values → EachIsSpelled words values (counted (text_of words values))
 canonical words values h = canonical_from words 1 values h
 
--- each value that fits has a canonical line
-abbrev pub HaveLines : {V : Type 0} → Fitting V → Wording V → Type 0
-HaveLines {V = V} Fits words = (before : List V) (value : V) → Fits before value → IsLine (words value)
-
 all_lines : {V C : Type 0} (Fits : Fitting V) (words : Wording V) (fault : Rules V C) → HaveLines Fits words
     → (before values : List V) → Keeps Fits fault before values → AllByRecursion (λ value. IsLine (words value)) values
 all_lines Fits words fault each before [] h = tt
@@ -55,3 +52,8 @@ all_lines Fits words fault each before (value ∷ values) h = (each before value
 pub canonical_spells : {V C : Type 0} (Fits : Fitting V) (words : Wording V) (fault : Rules V C) → HaveLines Fits words
     → (values : List V) → Keeps Fits fault [] values → Spells Fits words fault [] values (counted (text_of words values))
 canonical_spells Fits words fault each values h = (h, canonical words values (all_lines Fits words fault each [] values h))
+
+-- the canonical text of values that keep the rules is read as these values
+pub canonical_read : {V C : Type 0} (read : LineReader V C) (Fits : Fitting V) (words : Wording V) (fault : Rules V C) → HaveForms read Fits words → HaveLines Fits words
+    → (values : List V) → Keeps Fits fault [] values → read_lines (next_value read fault) [] (counted (text_of words values)) ≡ Ok values
+canonical_read read Fits words fault forms each values h = values_again read Fits words fault forms [] values (counted (text_of words values)) (canonical_spells Fits words fault each values h)

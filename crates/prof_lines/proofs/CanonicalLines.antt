@@ -10,12 +10,8 @@ use Rattle.prof_base.specs.Text.{is_printable, IsText}
 use Rattle.prof_lines.specs.Words.{is_plain, is_digit}
 use Rattle.prof_lines.specs.Quoted.{is_escapable}
 use Rattle.prof_lines.specs.Spelled.{IsWord, escaped, escaped_byte, quoted}
-use Rattle.prof_lines.specs.Canonical.{further, begins_line, is_one_line, IsLine}
+use Rattle.prof_lines.specs.Canonical.{further, begins_line, is_one_line, IsOneLine, IsLine}
 use Rattle.prof_lines.proofs.Numbers.{own}
-
--- the word has no line end
-abbrev pub IsOneLine : List ℕ → Type 0
-IsOneLine word = is_one_line word ≡ true
 
 plain_one : (b : ℕ) → is_plain b ≡ true → not (b == 10) ≡ true
 plain_one b h = grind (arith, nat_tests)

@@ -1,12 +1,12 @@
 -- Readers that name one cause refuse what spells none of their values.
-use Rattle.std.proofs.Common.{◌≡◌, ◌≢◌, ℕ, List, Result, Ok, Err, refl, ap, ◌∙◌, subst}
+use Rattle.std.proofs.Common.{◌≡◌, ℕ, List, Result, Ok, Err, refl, ap, ◌∙◌, subst}
 use Rattle.prof_lines.specs.declared.fault.Cause.{Cause}
 use Rattle.prof_lines.specs.declared.fault.Cause.TheVariants.{Word}
 use Rattle.prof_lines.specs.Answers.{Reader, Front}
-use Rattle.prof_lines.specs.Spelled.{BeginsWith, HasWords}
+use Rattle.prof_lines.specs.Spelled.{HasWords}
 use Rattle.prof_lines.specs.Forms.{Wording, IsNaming, IsPlace, IsForm}
-use Rattle.prof_lines.specs.Causes.{Faults, Refuses, FoundBy, WordFault, NamingFault}
-use Rattle.prof_lines.proofs.Steps.{not_both, ok_same}
+use Rattle.prof_lines.specs.Causes.{Refuses, FoundBy, WordFault, NamingFault}
+use Rattle.prof_lines.proofs.Steps.{not_both}
 
 -- what is answered may be refused with this cause alone
 abbrev pub OnlyCause : {B C : Type 0} → Cause C → Result B (Cause C) → Type 0

@@ -3,9 +3,9 @@ use Rattle.std.proofs.Common.{◌≡◌, ◌≢◌, ℕ, List, Bool, true, false
 use Rattle.std.proofs.lemmas.Bool.{both_ways, false_from_ne_true}
 use Rattle.std.proofs.lemmas.Slice.Eq.{bytes_eq-Decides}
 use Rattle.prof_lines.specs.declared.fault.Cause.{Cause}
-use Rattle.prof_lines.specs.Answers.{Reader, Front, ◌>>=◌, followed}
+use Rattle.prof_lines.specs.Answers.{Reader, Front, followed}
 use Rattle.prof_lines.specs.Words.{fixed_at, end_at}
-use Rattle.prof_lines.specs.Spelled.{BeginsWith, IsWord}
+use Rattle.prof_lines.specs.Spelled.{IsWord}
 use Rattle.prof_lines.specs.Forms.{IsPlace}
 use Rattle.prof_lines.specs.Causes.{Faults, Refuses, AtOrAfter, FixedFault, FixedOrAfter, EndFault, ChosenFault}
 use Rattle.prof_lines.proofs.Steps.{bind_err}
@@ -37,7 +37,8 @@ refuses_chain read Fits word Fault next Later place r later = record {
 }
 
 -- a fixed word, and then what comes after it
-pub refuses_after_fixed : {B C : Type 0} (wanted : List ℕ) (next : Reader B C) (Later : Faults C) → IsWord wanted → Refuses next Later → Refuses (followed (fixed_at wanted) next) (FixedOrAfter wanted Later)
+pub refuses_after_fixed : {B C : Type 0} (wanted : List ℕ) (next : Reader B C) (Later : Faults C) → IsWord wanted → Refuses next Later
+    → Refuses (followed (fixed_at wanted) next) (FixedOrAfter wanted Later)
 refuses_after_fixed {C = C} wanted next Later w later =
     let r : Refuses {C = C} (fixed_at wanted) (FixedFault wanted) = fixed_refuses wanted w in
     record {
@@ -54,7 +55,8 @@ refuses_after_fixed {C = C} wanted next Later w later =
 pub refuses_end : {B C : Type 0} (value : B) → Refuses {C = C} (followed end_at (λ u. Ok value)) EndFault
 refuses_end value = refuses_made end_at (λ u. value) EndFault end_refuses
 
-chosen_says : {B C : Type 0} (name word : List ℕ) (t : Bool) (named other : Result B (Cause C)) (cause : Cause C) (Named Other : Type 0) → bytes_eq word name ≡ t → cond t named other ≡ Err cause
+chosen_says : {B C : Type 0} (name word : List ℕ) (t : Bool) (named other : Result B (Cause C)) (cause : Cause C) (Named Other : Type 0) → bytes_eq word name ≡ t
+    → cond t named other ≡ Err cause
     → (named ≡ Err cause → Named) → (other ≡ Err cause → Other) → ((word ≡ name) × Named) ⊎ ((word ≢ name) × Other)
 chosen_says name word true named other cause Named Other e h first second = inl ((bytes_eq-Decides word name).0 e, first h)
 chosen_says name word false named other cause Named Other e h first second = inr (λ same. both_ways (bytes_eq word name) e ((bytes_eq-Decides word name).1 same), second h)
@@ -63,7 +65,9 @@ chosen_says name word false named other cause Named Other e h first second = inr
 pub refuses_chosen : {B C : Type 0} (name : List ℕ) (named other : Reader B C) (Named Other : Faults C) → Refuses named Named → Refuses other Other
     → (word : List ℕ) → Refuses (λ bytes. if bytes_eq word name then named bytes else other bytes) (ChosenFault name Named Other word)
 refuses_chosen name named other Named Other first second word = record {
-  says = λ bytes cause h. chosen_says name word (bytes_eq word name) (named bytes) (other bytes) cause (Named bytes cause) (Other bytes cause) refl h (first.says bytes cause) (second.says bytes cause);
+  says = λ bytes cause h.
+      let by = chosen_says name word (bytes_eq word name) (named bytes) (other bytes) cause (Named bytes cause) (Other bytes cause) refl in
+      by h (first.says bytes cause) (second.says bytes cause);
   again = λ bytes cause f. elim f [
     | inl q ↦ rw ((bytes_eq-Decides word name).1 q.0) (first.again bytes cause q.1)
     | inr q ↦ rw (false_from_ne_true (bytes_eq word name) (λ e. q.0 ((bytes_eq-Decides word name).0 e))) (second.again bytes cause q.1)

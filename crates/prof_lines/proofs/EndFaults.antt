@@ -1,11 +1,11 @@
 -- The faults of forms up to the end of a line: a word that may be missing, and numbers.
-use Rattle.std.proofs.Common.{◌≡◌, ℕ, zero, suc, ◌^◌, ◌<◌, List, [], ◌∷◌, Bool, true, false, cond, Result, Ok, Err, refl, sym, decimal, inl, inr, ◌⊎◌}
+use Rattle.std.proofs.Common.{◌≡◌, ℕ, zero, suc, ◌^◌, ◌<◌, List, [], ◌∷◌, Bool, true, false, cond, Result, Ok, Err, refl, decimal, inl, inr}
 use Rattle.std.proofs.lemmas.Bool.{both_ways, false_from_ne_true}
 use Rattle.prof_lines.specs.declared.fault.Cause.{Cause}
 use Rattle.prof_lines.specs.declared.fault.Cause.TheVariants.{Word}
 use Rattle.prof_lines.specs.Answers.{◌>>=◌, followed}
 use Rattle.prof_lines.specs.Words.{is_end, InRange, fixed_at, number_at, end_at, optional_at, numbers_at}
-use Rattle.prof_lines.specs.Spelled.{IsWord, HasWords, optional_word}
+use Rattle.prof_lines.specs.Spelled.{IsWord, optional_word}
 use Rattle.prof_lines.specs.Causes.{Refuses, EndFault, OptionalFault, NumberFault, NumbersFault, AtOrAfter}
 use Rattle.prof_lines.proofs.Steps.{bind_err}
 use Rattle.prof_lines.proofs.Ends.{none_left, left_none}
@@ -49,21 +49,23 @@ MoreFault least most room bytes cause = AtOrAfter (InRange least most) decimal (
 more_refuses : {C : Type 0} (least most : ℕ) → most < 2 ^ 64 → (room : ℕ) → Refuses {C = C} (numbers_at least most room) (NumbersFault least most room)
     → Refuses {C = C} (λ bytes. number_at least most bytes >>= λ first. numbers_at least most room first.1 >>= λ others. Ok (first.0 ∷ others)) (MoreFault least most room)
 more_refuses least most small room r =
-    refuses_chain (number_at least most) (InRange least most) decimal (NumberFault least most) (λ first. numbers_at least most room first.1 >>= λ others. Ok (first.0 ∷ others)) (λ n. NumbersFault least most room)
-      (number_place least most small) (number_refuses least most small) (λ n. refuses_made (numbers_at least most room) (λ others. n ∷ others) (NumbersFault least most room) r)
+    refuses_chain (number_at least most) (InRange least most) decimal (NumberFault least most) (λ first. numbers_at least most room first.1 >>= λ others. Ok (first.0 ∷ others))
+    (λ n. NumbersFault least most room)
+    (number_place least most small) (number_refuses least most small) (λ n. refuses_made (numbers_at least most room) (λ others. n ∷ others) (NumbersFault least most room) r)
 
 none_refuses : {C : Type 0} (least most : ℕ) → Refuses {C = C} (numbers_at least most zero) (NumbersFault least most zero)
 unfolding numbers_at
 none_refuses least most = end_made (λ u. [])
 
-some_refuse : {C : Type 0} (least most : ℕ) → most < 2 ^ 64 → (room : ℕ) → Refuses {C = C} (numbers_at least most room) (NumbersFault least most room) → Refuses {C = C} (numbers_at least most (suc room)) (NumbersFault least most (suc room))
+some_refuse : {C : Type 0} (least most : ℕ) → most < 2 ^ 64 → (room : ℕ) → Refuses {C = C} (numbers_at least most room) (NumbersFault least most room)
+    → Refuses {C = C} (numbers_at least most (suc room)) (NumbersFault least most (suc room))
 unfolding numbers_at
 some_refuse {C = C} least most small room r =
     let more : Refuses {C = C} _ (MoreFault least most room) = more_refuses least most small room r in
     record {
       says = λ bytes cause h.
-        let on = on_by (is_end bytes) [] _ cause h in
-        (λ none. both_ways (is_end bytes) on.0 (left_none bytes none), more.says bytes cause on.1);
+          let on = on_by (is_end bytes) [] _ cause h in
+          (λ none. both_ways (is_end bytes) on.0 (left_none bytes none), more.says bytes cause on.1);
       again = λ bytes cause f. rw (false_from_ne_true (is_end bytes) (λ e. f.0 (none_left bytes e))) (more.again bytes cause f.1);
     }
 

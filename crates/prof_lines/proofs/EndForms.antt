@@ -1,6 +1,6 @@
 -- Forms up to the end of a line: a word that may be missing, and numbers.
 use Rattle.std.proofs.Common.{◌≡◌, ℕ, zero, suc, ◌^◌, ◌<◌, List, [], ◌∷◌, map, Bool, true, false, cond, Result, Ok, refl, arith, subst, decimal, ◌⊎◌, inl, inr}
-use Rattle.prof_lines.specs.Answers.{◌>>=◌}
+use Rattle.prof_lines.specs.Answers.{Reader, ◌>>=◌}
 use Rattle.prof_lines.specs.Words.{is_end, fixed_at, number_at, end_at, optional_at, numbers_at, InRange}
 use Rattle.prof_lines.specs.Spelled.{HasWords, IsWord, optional_word, AreNumbers}
 use Rattle.prof_lines.specs.Forms.{IsPlace, IsForm}
@@ -39,16 +39,21 @@ optional_form wanted h = record {
   again = λ bytes flag fits s. optional_again wanted bytes flag h s;
 }
 
+-- a number and those after it, with room for so many of these
+abbrev more : {C : Type 0} → ℕ → ℕ → ℕ → Reader (List ℕ) C
+more least most room bytes = number_at least most bytes >>= λ first. numbers_at least most room first.1 >>= λ others. Ok (first.0 ∷ others)
+
 -- numbers that were read, and the line that has them
 abbrev AreRead : ℕ → ℕ → ℕ → List ℕ → List ℕ → Type 0
 AreRead least most room bytes numbers = AreNumbers least most room numbers × HasWords (map decimal numbers) bytes
 
-numbers_takes : {C : Type 0} (least most : ℕ) → most < 2 ^ 64 → (room : ℕ) (bytes numbers : List ℕ) → numbers_at {C = C} least most room bytes ≡ Ok numbers → AreRead least most room bytes numbers
+numbers_takes : {C : Type 0} (least most : ℕ) → most < 2 ^ 64 → (room : ℕ) (bytes numbers : List ℕ) → numbers_at {C = C} least most room bytes ≡ Ok numbers
+    → AreRead least most room bytes numbers
 unfolding numbers_at
 numbers_takes least most small zero bytes numbers h =
     let e = end_step bytes _ numbers h in
     subst (AreRead least most 0 bytes) (ok_same [] numbers e.1) ((omega arith, tt), e.0)
-numbers_takes least most small (suc room) bytes numbers h = elim (ended_by (is_end bytes) [] (number_at least most bytes >>= λ first. numbers_at least most room first.1 >>= λ others. Ok (first.0 ∷ others)) numbers h) [
+numbers_takes least most small (suc room) bytes numbers h = elim (ended_by (is_end bytes) [] (more least most room bytes) numbers h) [
   | inl p ↦ subst (AreRead least most (suc room) bytes) p.1 ((omega arith, tt), none_left bytes p.0)
   | inr q ↦
       let a = place_step (number_at least most) (InRange least most) decimal (number_place least most small) bytes _ numbers q.1 in
@@ -57,7 +62,8 @@ numbers_takes least most small (suc room) bytes numbers h = elim (ended_by (is_e
       subst (AreRead least most (suc room) bytes) (ok_same (a.0.0 ∷ b.0) numbers b.2) ((omega (arith, later.0.0), (a.1, later.0.1)), (a.0.1, a.2, later.1))
 ]
 
-numbers_again : {C : Type 0} (least most : ℕ) → most < 2 ^ 64 → (room : ℕ) (bytes numbers : List ℕ) → AreNumbers least most room numbers → HasWords (map decimal numbers) bytes → numbers_at {C = C} least most room bytes ≡ Ok numbers
+numbers_again : {C : Type 0} (least most : ℕ) → most < 2 ^ 64 → (room : ℕ) (bytes numbers : List ℕ) → AreNumbers least most room numbers
+    → HasWords (map decimal numbers) bytes → numbers_at {C = C} least most room bytes ≡ Ok numbers
 unfolding numbers_at
 numbers_again least most small zero bytes [] fits s = rw (end_again bytes s) refl
 numbers_again least most small zero bytes (n ∷ numbers) fits s = absurd (omega (arith, fits.0))

@@ -1,5 +1,5 @@
 -- What the lines of a text are, and which are passed over.
-use Rattle.std.proofs.Common.{◌≡◌, ℕ, ◌<◌, List, [], ◌∷◌, ◌++◌, length, true, false, not, ◌==◌, ◌↔◌, ◌⊎◌, inl, inr, refl, ap, ◌∙◌, append-nil, arith}
+use Rattle.std.proofs.Common.{◌≡◌, ℕ, ◌<◌, List, [], ◌∷◌, ◌++◌, length, true, not, ◌==◌, ◌↔◌, ◌⊎◌, inl, inr, refl, ap, ◌∙◌, append-nil, arith}
 use Rattle.std.proofs.lemmas.Bool.{and_parts, not-true, eqb-true}
 use Rattle.prof_lines.specs.Words.{after_spaces}
 use Rattle.prof_lines.specs.Lines.{onto_first, lines_of, is_comment, is_passed}

@@ -1,12 +1,11 @@
 -- Where no plain word comes next.
-use Rattle.std.proofs.Common.{◌≡◌, ℕ, suc, ◌<◌, List, [], ◌∷◌, ◌++◌, length, take, drop, Bool, true, false, cond, not, ◌||◌, ◌==◌, Ok, Err, ◌↔◌, ◌⊎◌, inl, inr, refl, ap, ◌∙◌, sym, arith}
+use Rattle.std.proofs.Common.{◌≡◌, ℕ, suc, ◌<◌, List, [], ◌∷◌, ◌++◌, length, take, drop, Bool, true, false, cond, not, ◌==◌, Err, ◌↔◌, ◌⊎◌, inl, inr, refl, ap, ◌∙◌, sym, arith}
 use Rattle.std.specs.List.{list_all}
-use Rattle.std.proofs.lemmas.Bool.{and_from, both_ways, eqb-true, not-true, not_from_false, or_cases}
+use Rattle.std.proofs.lemmas.Bool.{both_ways, not-true, or_cases}
 use Rattle.std.proofs.lemmas.List.{take_at, take-append-drop}
-use Rattle.prof_lines.specs.declared.fault.Cause.{Cause}
 use Rattle.prof_lines.specs.declared.fault.Cause.TheVariants.{Word}
 use Rattle.prof_lines.specs.Words.{after_spaces, len_before, is_no_space, is_plain, is_end, word_at}
-use Rattle.prof_lines.specs.Spelled.{spaces, BeginsWith, HasWords, IsWord}
+use Rattle.prof_lines.specs.Spelled.{spaces, BeginsWith, HasWords}
 use Rattle.prof_lines.specs.Causes.{NoWordComes, HasOtherNext}
 use Rattle.prof_lines.proofs.Steps.{guard_found}
 use Rattle.prof_lines.proofs.PlainWords.{not_none, spaces_passed, stops_after, next_after_spaces, len_before-next}
@@ -23,7 +22,8 @@ none_after_spaces : (bytes : List ℕ) → (len_before 32 (after_spaces bytes) =
 none_after_spaces [] h = refl
 none_after_spaces (b ∷ bytes) h = first_by b (b == 32) bytes refl (none_after_spaces bytes) h
 
-spaceless_by : (b : ℕ) (t : Bool) (bytes : List ℕ) → (b == 32) ≡ t → list_all is_no_space (take (len_before 32 bytes) bytes) ≡ true → list_all is_no_space (take (cond t 0 (suc (len_before 32 bytes))) (b ∷ bytes)) ≡ true
+spaceless_by : (b : ℕ) (t : Bool) (bytes : List ℕ) → (b == 32) ≡ t → list_all is_no_space (take (len_before 32 bytes) bytes) ≡ true
+    → list_all is_no_space (take (cond t 0 (suc (len_before 32 bytes))) (b ∷ bytes)) ≡ true
 spaceless_by b true bytes e h = refl
 spaceless_by b false bytes e h = rw (e, h) refl
 
@@ -37,7 +37,7 @@ other_next bytes h =
     let len = len_before 32 front in
     let passed = spaces_passed bytes in
     let begins : BeginsWith (take len front) (drop len front) bytes =
-        record { before = passed.0; is = passed.1 ∙ ap (λ (z : List ℕ). spaces passed.0 ++ z) (sym (take-append-drop len front)); stops = stops_after front } in
+    record { before = passed.0; is = passed.1 ∙ ap (λ (z : List ℕ). spaces passed.0 ++ z) (sym (take-append-drop len front)); stops = stops_after front } in
     (take len front, drop len front, begins, spaceless front, h)
 
 missing_or_other : (bytes : List ℕ) → NoWordComes bytes → HasWords [] bytes ⊎ HasOtherNext bytes

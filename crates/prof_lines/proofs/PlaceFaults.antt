@@ -1,14 +1,14 @@
 -- The faults of the places of a line.
-use Rattle.std.proofs.Common.{◌≡◌, ◌≢◌, ℕ, ◌^◌, ◌<◌, List, Bool, true, false, cond, not, ◌&&◌, ◌||◌, ◌==◌, nat_le, Result, Ok, Err, refl, sym, take, drop, Option, Some, None, decimal, bytes_eq, inl, inr, ◌⊎◌}
+use Rattle.std.proofs.Common.{ℕ, ◌^◌, ◌<◌, List, false, not, ◌&&◌, ◌||◌, ◌==◌, nat_le, refl, sym, take, drop, Option, Some, None, decimal, bytes_eq, inl, inr}
 use Rattle.std.specs.List.{list_all}
 use Rattle.prof_base.specs.Text.{IsText}
 use Rattle.prof_lines.specs.declared.fault.Cause.{Cause}
 use Rattle.prof_lines.specs.declared.fault.Cause.TheVariants.{Word, Number, Own}
-use Rattle.prof_lines.specs.Answers.{Reader, Front, ◌>>=◌, followed}
+use Rattle.prof_lines.specs.Answers.{Reader}
 use Rattle.prof_lines.specs.Words.{after_spaces, len_before, is_plain, is_numeral, value_from, is_label, is_end, InRange, IsLabel, word_at, of_word, fixed_at, number_of, number_at, label_at, end_at}
 use Rattle.prof_lines.specs.Quoted.{opened, unquoted, checked_text, is_stop, or_word, quoted_at}
-use Rattle.prof_lines.specs.Spelled.{IsWord, BeginsWith, HasWords, quoted}
-use Rattle.prof_lines.specs.Causes.{Faults, Refuses, NoWordComes, WordFault, FixedFault, NamingFault, NumberFault, OfWordFault, EndFault}
+use Rattle.prof_lines.specs.Spelled.{IsWord, quoted}
+use Rattle.prof_lines.specs.Causes.{Faults, Refuses, WordFault, FixedFault, NamingFault, NumberFault, OfWordFault, EndFault}
 use Rattle.prof_lines.proofs.Steps.{bind_err, guard_err, guard_found, err_same, not_both}
 use Rattle.prof_lines.proofs.PlainWords.{word_place, word_takes, word_again, fixed_takes, fixed_again}
 use Rattle.prof_lines.proofs.Ends.{end_takes, end_again}
@@ -122,7 +122,8 @@ number_fault_again least most bytes (Own cause) f = absurd f
 pub number_refuses : {C : Type 0} (least most : ℕ) → most < 2 ^ 64 → Refuses {C = C} (number_at least most) (NumberFault least most)
 unfolding number_at
 number_refuses {C = C} least most small =
-    let r : Refuses {C = C} (of_word (number_of least most)) (OfWordFault (NamingFault Number (InRange least most) decimal)) = of_word_refuses (number_of least most) _ (number_of_refuses least most small) in
+    let of : Refuses {C = C} (number_of least most) (NamingFault Number (InRange least most) decimal) = number_of_refuses least most small in
+    let r = of_word_refuses (number_of least most) (NamingFault Number (InRange least most) decimal) of in
     record {
       says = λ bytes cause h. number_fault_from least most bytes cause (r.says bytes cause h);
       again = λ bytes cause f. r.again bytes cause (number_fault_again least most bytes cause f);

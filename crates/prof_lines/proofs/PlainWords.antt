@@ -56,7 +56,8 @@ word_again word rest bytes h s =
     )
     refl
 
-spaces_by : (b : ℕ) (t : Bool) (bytes : List ℕ) → (b == 32) ≡ t → ((n : ℕ) × (bytes ≡ spaces n ++ after_spaces bytes)) → (n : ℕ) × ((b ∷ bytes) ≡ spaces n ++ cond t (after_spaces bytes) (b ∷ bytes))
+spaces_by : (b : ℕ) (t : Bool) (bytes : List ℕ) → (b == 32) ≡ t → ((n : ℕ) × (bytes ≡ spaces n ++ after_spaces bytes))
+    → (n : ℕ) × ((b ∷ bytes) ≡ spaces n ++ cond t (after_spaces bytes) (b ∷ bytes))
 spaces_by b true bytes e h = (suc h.0, rw (eqb-true b 32 e) (ap (λ (x : List ℕ). 32 ∷ x) h.1))
 spaces_by b false bytes e h = (0, refl)
 

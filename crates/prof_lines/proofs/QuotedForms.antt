@@ -17,7 +17,8 @@ use Rattle.prof_lines.proofs.Unquoting.{text_is_taken}
 escaped-cons : (b : ℕ) (p q : Bool) (text : List ℕ) → (b == 34) ≡ p → (b == 92) ≡ q → escaped (b ∷ text) ≡ cond (p || q) (92 ∷ b ∷ []) (b ∷ []) ++ escaped text
 escaped-cons b p q text e f = rw (e, f) refl
 
-unquoted_by : (b : ℕ) (bytes : List ℕ) (p q : Bool) → (b == 34) ≡ p → (b == 92) ≡ q → unquoted false (cond (p || q) (92 ∷ b ∷ []) (b ∷ []) ++ bytes) ≡ onto_text b (unquoted false bytes)
+unquoted_by : (b : ℕ) (bytes : List ℕ) (p q : Bool) → (b == 34) ≡ p → (b == 92) ≡ q
+    → unquoted false (cond (p || q) (92 ∷ b ∷ []) (b ∷ []) ++ bytes) ≡ onto_text b (unquoted false bytes)
 unquoted_by b bytes true q e f = rw e refl
 unquoted_by b bytes false true e f = rw (e, f) refl
 unquoted_by b bytes false false e f = rw (e, f) refl
@@ -101,8 +102,8 @@ stop_again : (bytes : List ℕ) → Stops bytes → is_stop bytes ≡ true
 stop_again [] h = refl
 stop_again (b ∷ bytes) h = rw h refl
 
-quoted_from : (bytes inside : List ℕ) (raw : Front (List ℕ)) (text : List ℕ) → after_spaces bytes ≡ 34 ∷ inside → inside ≡ escaped raw.0 ++ 34 ∷ raw.1 → raw.0 ≡ text → Stops raw.1
-    → BeginsWith (quoted text) raw.1 bytes
+quoted_from : (bytes inside : List ℕ) (raw : Front (List ℕ)) (text : List ℕ) → after_spaces bytes ≡ 34 ∷ inside
+    → inside ≡ escaped raw.0 ++ 34 ∷ raw.1 → raw.0 ≡ text → Stops raw.1 → BeginsWith (quoted text) raw.1 bytes
 quoted_from bytes inside raw text s e f stops =
     let passed = spaces_passed bytes in
     let whole : after_spaces bytes ≡ quoted text ++ raw.1 = s ∙ ap (λ (z : List ℕ). 34 ∷ z) (e ∙ rw f (sym (append_assoc (escaped text) (34 ∷ []) raw.1))) in

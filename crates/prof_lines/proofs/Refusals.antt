@@ -1,14 +1,12 @@
 -- A text is refused at its first line whose words are at fault or spell a value that breaks a rule, or else at its end.
-use Rattle.std.proofs.Common.{◌≡◌, ℕ, List, [], ◌∷◌, ◌++◌, Result, Ok, Err, Option, Some, None, refl, sym, ap, ◌∙◌, subst, inl, inr, ◌↔◌, ◌⊎◌}
+use Rattle.std.proofs.Common.{◌≡◌, ℕ, List, [], ◌∷◌, ◌++◌, Err, Option, Some, None, refl, ap, subst, inl, inr, ◌↔◌}
 use Rattle.prof_lines.specs.declared.fault.Cause.{Cause}
-use Rattle.prof_lines.specs.Answers.{◌>>=◌}
-use Rattle.prof_lines.specs.Lines.{counted, number_after}
-use Rattle.prof_lines.specs.Folds.{placed, read_lines, read_text, IsFirstFault, IsEndFault, IsTextFault}
-use Rattle.prof_lines.specs.Spelled.{HasWords}
+use Rattle.prof_lines.specs.Lines.{counted}
+use Rattle.prof_lines.specs.Folds.{read_lines, read_text, IsFirstFault, IsTextFault}
 use Rattle.prof_lines.specs.Forms.{Wording, IsForm}
-use Rattle.prof_lines.specs.Values.{LineReader, Fitting, Rules, TextEnd, HaveForms, kept, next_value, Spells}
+use Rattle.prof_lines.specs.Values.{LineReader, Fitting, Rules, TextEnd, HaveForms, kept, next_value}
 use Rattle.prof_lines.specs.Causes.{Refuses}
-use Rattle.prof_lines.specs.Refused.{LineFaults, LineFaultAfter, IsRefusedLine, IsRefusedEnd, IsRefusedText}
+use Rattle.prof_lines.specs.Refused.{LineFaults, LineFaultAfter, IsRefusedLine, IsRefusedText}
 use Rattle.prof_lines.proofs.Steps.{bind_err, err_same}
 use Rattle.prof_lines.proofs.Folds.{first_fault_iff, text_fault_iff}
 use Rattle.prof_lines.proofs.Values.{values_taken, values_again}
@@ -77,19 +75,22 @@ lines_refused read Fits words fault Fault forms faults lines place =
     (λ h. refused_from read Fits words fault Fault forms faults lines place (first.0 h), λ f. first.1 (refused_again read Fits words fault Fault forms faults lines place f))
 
 text_from : {V W C : Type 0} (read : LineReader V C) (Fits : Fitting V) (words : Wording V) (fault : Rules V C) (Fault : LineFaults V C) (end : TextEnd V W C)
-    → HaveForms read Fits words → HaveFaults read Fault → (text : List ℕ) (place : ℕ × Cause C) → IsTextFault (next_value read fault) end [] text place → IsRefusedText Fits words fault Fault end text place
+    → HaveForms read Fits words → HaveFaults read Fault → (text : List ℕ) (place : ℕ × Cause C)
+    → IsTextFault (next_value read fault) end [] text place → IsRefusedText Fits words fault Fault end text place
 text_from read Fits words fault Fault end forms faults text place (inl f) = inl (refused_from read Fits words fault Fault forms faults (counted text) place f)
 text_from {V = V} read Fits words fault Fault end forms faults text place (inr f) =
     let v = values_taken read Fits words fault forms [] f.0 (counted text) f.1 in
     inr (record { values = v.0; spelled = v.2; at_fault = subst (λ (z : List V). end z ≡ Err place.1) v.1 f.2; number = f.3 })
 
 text_again : {V W C : Type 0} (read : LineReader V C) (Fits : Fitting V) (words : Wording V) (fault : Rules V C) (Fault : LineFaults V C) (end : TextEnd V W C)
-    → HaveForms read Fits words → HaveFaults read Fault → (text : List ℕ) (place : ℕ × Cause C) → IsRefusedText Fits words fault Fault end text place → IsTextFault (next_value read fault) end [] text place
+    → HaveForms read Fits words → HaveFaults read Fault → (text : List ℕ) (place : ℕ × Cause C)
+    → IsRefusedText Fits words fault Fault end text place → IsTextFault (next_value read fault) end [] text place
 text_again read Fits words fault Fault end forms faults text place (inl f) = inl (refused_again read Fits words fault Fault forms faults (counted text) place f)
 text_again read Fits words fault Fault end forms faults text place (inr f) = inr (f.values, values_again read Fits words fault forms [] f.values (counted text) f.spelled, f.at_fault, f.number)
 
 pub text_refused : {V W C : Type 0} (read : LineReader V C) (Fits : Fitting V) (words : Wording V) (fault : Rules V C) (Fault : LineFaults V C) (end : TextEnd V W C)
-    → HaveForms read Fits words → HaveFaults read Fault → (text : List ℕ) (place : ℕ × Cause C) → (read_text (next_value read fault) end [] text ≡ Err place) ↔ IsRefusedText Fits words fault Fault end text place
+    → HaveForms read Fits words → HaveFaults read Fault → (text : List ℕ) (place : ℕ × Cause C)
+    → (read_text (next_value read fault) end [] text ≡ Err place) ↔ IsRefusedText Fits words fault Fault end text place
 text_refused read Fits words fault Fault end forms faults text place =
     let first = text_fault_iff (next_value read fault) end [] text place in
     (λ h. text_from read Fits words fault Fault end forms faults text place (first.0 h), λ f. first.1 (text_again read Fits words fault Fault end forms faults text place f))

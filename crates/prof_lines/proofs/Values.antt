@@ -1,9 +1,9 @@
 -- What is read of lines that spell values, and what lines spell whose values were read.
-use Rattle.std.proofs.Common.{◌≡◌, ℕ, List, [], ◌∷◌, ◌++◌, Result, Ok, Option, Some, None, refl, sym, ap, ◌∙◌, append_assoc, append-nil, subst}
+use Rattle.std.proofs.Common.{◌≡◌, ℕ, List, [], ◌∷◌, ◌++◌, Ok, Option, Some, None, refl, sym, ap, ◌∙◌, append_assoc, append-nil, subst}
 use Rattle.prof_lines.specs.declared.fault.Cause.{Cause}
 use Rattle.prof_lines.specs.Lines.{counted, number_after}
 use Rattle.prof_lines.specs.Folds.{placed, read_lines, read_text}
-use Rattle.prof_lines.specs.Forms.{Wording, IsForm}
+use Rattle.prof_lines.specs.Forms.{Wording}
 use Rattle.prof_lines.specs.Values.{LineReader, Fitting, Rules, TextEnd, HaveForms, kept, next_value, Spells, EndsIn}
 use Rattle.prof_lines.proofs.Steps.{bind_ok, ok_same}
 use Rattle.prof_lines.proofs.Folds.{placed_ok}

@@ -1,5 +1,5 @@
 -- What is at fault in a line, and with which cause, in terms that no reader shares.
-use Rattle.std.specs.Prelude.{◌≡◌, ◌≢◌, ℕ, zero, suc, List, [], ◌∷◌, Result, Err, Bool, true, false, ◌⊎◌, decimal}
+use Rattle.std.specs.Prelude.{◌≡◌, ◌≢◌, ℕ, zero, suc, List, [], Err, Bool, true, false, ◌⊎◌, decimal}
 use Rattle.std.specs.List.{list_all}
 use Rattle.prof_lines.specs.declared.fault.Cause.{Cause}
 use Rattle.prof_lines.specs.declared.fault.Cause.TheVariants.{Word, Number, Own}

@@ -5,6 +5,7 @@ use Rattle.prof_lines.specs.Answers.{Reader, ◌>>=◌}
 use Rattle.prof_lines.specs.Lines.{counted}
 use Rattle.prof_lines.specs.Spelled.{HasWords}
 use Rattle.prof_lines.specs.Forms.{Wording, IsForm}
+use Rattle.prof_lines.specs.Canonical.{IsLine}
 
 -- a reader of the line that comes after these values
 abbrev pub LineReader : Type 0 → Type 0 → Type 0
@@ -29,6 +30,10 @@ PassesAfter fits before value = IsTrue (fits before value)
 -- after any values the line that comes next has a form, whose values fit
 abbrev pub HaveForms : {V C : Type 0} → LineReader V C → Fitting V → Wording V → Type 0
 HaveForms {V = V} read Fits words = (before : List V) → IsForm (read before) (Fits before) words
+
+-- each value that fits has a canonical line
+abbrev pub HaveLines : {V : Type 0} → Fitting V → Wording V → Type 0
+HaveLines {V = V} Fits words = (before : List V) (value : V) → Fits before value → IsLine (words value)
 
 -- each value, in order, is spelled by the line in its place
 abbrev pub EachIsSpelled : {V : Type 0} → Wording V → List V → List (ℕ × List ℕ) → Type 0

@@ -13,8 +13,8 @@ ghost use Rattle.prof_lines.specs.Lines.{lines_of, is_passed, counted};
 ghost use Rattle.prof_lines.specs.Folds.{placed, read_lines, read_text, IsFirstFault, IsTextFault};
 ghost use Rattle.prof_lines.specs.Spelled.{IsWord, BeginsWith, HasWords, spaces, optional_word, AreNumbers, quoted};
 ghost use Rattle.prof_lines.specs.Forms.{Wording, Passes, IsNaming, IsPlace, IsForm};
-ghost use Rattle.prof_lines.specs.Canonical.{joined, text_of, is_one_line, begins_line, IsLine};
-ghost use Rattle.prof_lines.specs.Values.{LineReader, Rules, TextEnd, HaveForms, PassesAfter, next_value, EachIsSpelled, EndsIn};
+ghost use Rattle.prof_lines.specs.Canonical.{joined, text_of, is_one_line, IsOneLine, begins_line, IsLine};
+ghost use Rattle.prof_lines.specs.Values.{LineReader, Rules, TextEnd, HaveForms, HaveLines, PassesAfter, next_value, EachIsSpelled, Keeps, EndsIn};
 ghost use Rattle.prof_lines.specs.Causes.{Refuses, FoundBy, NoWordComes, HasOtherNext, WordFault, FixedFault, NamingFault, NumberFault, OfWordFault, EndFault, OptionalFault, NumbersFault, AtOrAfter, FixedOrAfter, ChosenFault};
 ghost use Rattle.prof_lines.specs.Refused.{FoundAfter, LineFaultAfter, IsRefusedLine, IsRefusedText};
 
@@ -79,39 +79,62 @@ pub fn a_plain_word_is_missing_or_not_plain()
 /// Places in a row are at fault at the first of them that is at fault, with the words before it spelled.
 pub fn the_first_fault_decides<A, B, C>()
     ensures of_word { (read : Reader A C) → Refuses (of_word read) (OfWordFault (FoundBy read)) }
-    ensures place { (read : Reader (Front A) C) (fits : A → Bool) (word : A → List ℕ) (next : Front A → Result B (Cause C)) → IsPlace read (Passes fits) word → Refuses (followed read next) (AtOrAfter (Passes fits) word (FoundBy read) (λ value. FoundBy (λ rest. next (value, rest)))) }
+    ensures place { (read : Reader (Front A) C) (fits : A → Bool) (word : A → List ℕ) (next : Front A → Result B (Cause C)) → IsPlace read (Passes fits) word
+        → Refuses (followed read next) (AtOrAfter (Passes fits) word (FoundBy read) (λ value. FoundBy (λ rest. next (value, rest)))) }
     ensures fixed { (wanted : List ℕ) (next : Reader B C) → IsWord wanted → Refuses (followed (fixed_at wanted) next) (FixedOrAfter wanted (FoundBy next)) }
     ensures end { (value : B) → Refuses {C = C} (followed end_at (λ u. Ok value)) EndFault }
-    ensures chosen { (name word : List ℕ) (named other : Reader B C) → Refuses (λ bytes. if bytes_eq word name then named bytes else other bytes) (ChosenFault name (FoundBy named) (FoundBy other) word) }
+    ensures chosen { (name word : List ℕ) (named other : Reader B C)
+        → Refuses (λ bytes. if bytes_eq word name then named bytes else other bytes) (ChosenFault name (FoundBy named) (FoundBy other) word) }
 {}
 
 /// A text that is read line by line is refused at its first line at fault, or else at its end.
 pub fn reading_stops_at_the_first_fault<S, V, F>()
-    ensures lines { (read : S → List ℕ → Result S F) (start : S) (lines : List (ℕ × List ℕ)) (place : ℕ × F) → (read_lines read start lines ≡ Err place) ↔ IsFirstFault read start lines place }
-    ensures text { (read : S → List ℕ → Result S F) (end : S → Result V F) (start : S) (text : List ℕ) (place : ℕ × F) → (read_text read end start text ≡ Err place) ↔ IsTextFault read end start text place }
+    ensures lines { (read : S → List ℕ → Result S F) (start : S) (lines : List (ℕ × List ℕ)) (place : ℕ × F)
+        → (read_lines read start lines ≡ Err place) ↔ IsFirstFault read start lines place }
+    ensures text { (read : S → List ℕ → Result S F) (end : S → Result V F) (start : S) (text : List ℕ) (place : ℕ × F)
+        → (read_text read end start text ≡ Err place) ↔ IsTextFault read end start text place }
 {}
 
 /// Where each line has a form, a text is read exactly where its lines spell values that break no rule, and
 /// as what these values end in.
 pub fn texts_are_read_as_spelled<V, W, C>()
-    ensures { (read : LineReader V C) (fits : List V → V → Bool) (words : Wording V) (fault : Rules V C) (end : TextEnd V W C) → HaveForms read (PassesAfter fits) words → (text : List ℕ) (whole : W) → (read_text (next_value read fault) end [] text ≡ Ok whole) ↔ EndsIn (PassesAfter fits) words fault end text whole }
+    ensures { (read : LineReader V C) (fits : List V → V → Bool) (words : Wording V) (fault : Rules V C) (end : TextEnd V W C) → HaveForms read (PassesAfter fits) words
+        → (text : List ℕ) (whole : W) → (read_text (next_value read fault) end [] text ≡ Ok whole) ↔ EndsIn (PassesAfter fits) words fault end text whole }
 {}
 
 /// Where each line has a form, the refused line of a text is the first whose words are at fault or spell a
 /// value that breaks a rule after the values that the lines before it spell; or else the end is refused.
 pub fn texts_are_refused_at_the_first_fault<V, W, C>()
-    ensures line { (read : LineReader V C) (fits : List V → V → Bool) (words : Wording V) (fault : Rules V C) → HaveForms read (PassesAfter fits) words → (before : List V) → Refuses (next_value read fault before) (LineFaultAfter (PassesAfter fits) words fault (FoundAfter read) before) }
-    ensures lines { (read : LineReader V C) (fits : List V → V → Bool) (words : Wording V) (fault : Rules V C) → HaveForms read (PassesAfter fits) words → (lines : List (ℕ × List ℕ)) (place : ℕ × Cause C) → (read_lines (next_value read fault) [] lines ≡ Err place) ↔ IsRefusedLine (PassesAfter fits) words fault (FoundAfter read) lines place }
-    ensures text { (read : LineReader V C) (fits : List V → V → Bool) (words : Wording V) (fault : Rules V C) (end : TextEnd V W C) → HaveForms read (PassesAfter fits) words → (text : List ℕ) (place : ℕ × Cause C) → (read_text (next_value read fault) end [] text ≡ Err place) ↔ IsRefusedText (PassesAfter fits) words fault (FoundAfter read) end text place }
+    ensures line { (read : LineReader V C) (fits : List V → V → Bool) (words : Wording V) (fault : Rules V C) → HaveForms read (PassesAfter fits) words → (before : List V)
+        → Refuses (next_value read fault before) (LineFaultAfter (PassesAfter fits) words fault (FoundAfter read) before) }
+    ensures lines { (read : LineReader V C) (fits : List V → V → Bool) (words : Wording V) (fault : Rules V C) → HaveForms read (PassesAfter fits) words
+        → (lines : List (ℕ × List ℕ)) (place : ℕ × Cause C)
+        → (read_lines (next_value read fault) [] lines ≡ Err place) ↔ IsRefusedLine (PassesAfter fits) words fault (FoundAfter read) lines place }
+    ensures text { (read : LineReader V C) (fits : List V → V → Bool) (words : Wording V) (fault : Rules V C) (end : TextEnd V W C) → HaveForms read (PassesAfter fits) words
+        → (text : List ℕ) (place : ℕ × Cause C)
+        → (read_text (next_value read fault) end [] text ≡ Err place) ↔ IsRefusedText (PassesAfter fits) words fault (FoundAfter read) end text place }
 {}
 
 /// The canonical text of values has one line for each, which spells it and is not passed over.
-pub fn canonical_texts_spell_their_values<V>()
+pub fn canonical_texts_spell_their_values<V, C>()
     ensures line { (words : List (List ℕ)) → HasWords words (joined words) }
     ensures text { (words : Wording V) (values : List V) → AllByRecursion (λ value. IsLine (words value)) values → EachIsSpelled words values (counted (text_of words values)) }
+    // The canonical text of values that break no rule is read as these values.
+    ensures read { (read : LineReader V C) (fits : List V → V → Bool) (words : Wording V) (fault : Rules V C) → HaveForms read (PassesAfter fits) words → HaveLines (PassesAfter fits) words
+        → (values : List V) → Keeps (PassesAfter fits) fault [] values → read_lines (next_value read fault) [] (counted (text_of words values)) ≡ Ok values }
+{}
+
+/// Words without line ends are one canonical line, which is not passed over, where the first of them begins
+/// with no space and no `#`.
+pub fn words_without_line_ends_are_a_line()
+    ensures line { (first : List ℕ) (words : List (List ℕ)) → begins_line first ≡ true → IsOneLine first → AllByRecursion IsOneLine words → IsLine (first ∷ words) }
+    ensures word { (word : List ℕ) → IsWord word → IsOneLine word }
+    ensures quoted { (text : List ℕ) → IsText text → IsOneLine (quoted text) }
+    ensures number { (n : ℕ) → n < 2 ^ 64 → begins_line (decimal n) ≡ true }
 {}
 
 /// The fault of a line becomes the fault of its text, with the number of the line.
 pub fn faults_get_the_number_of_their_line<X, Y, C>()
-    ensures { (view : X → Y) (read : Result Y (Cause C)) (number : ℕ) (fault : LineFault C) (answer : TextFault C) → Fails fault read → IsPlaced number fault answer → Reads view (Err answer) (placed number read) }
+    ensures { (view : X → Y) (read : Result Y (Cause C)) (number : ℕ) (fault : LineFault C) (answer : TextFault C) → Fails fault read → IsPlaced number fault answer
+        → Reads view (Err answer) (placed number read) }
 {}
