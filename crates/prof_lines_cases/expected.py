@@ -30,7 +30,7 @@ def read_place(place, rest):
         text = re.sub(rb"\\(.)", rb"\1", found.group(1))
         if len(text) > 200:
             raise Fault("word")
-        return text + b" ", rest[found.end():]
+        return b'%s "%s" ' % (text, found.group(1)), rest[found.end():]
     found = word_of(WORD.match(rest))
     word = found.group(1)
     if kind == "number":

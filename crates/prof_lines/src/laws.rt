@@ -1,5 +1,5 @@
 // Facts of the definitions, each the contract of a function that does nothing.
-ghost use Rattle.std.specs.Prelude.{◌≡◌, ◌↔◌, ◌⊎◌, ℕ, ◌<◌, ◌^◌, ◌++◌, ◌∷◌, [], List, length, map, Bool, true, IsTrue, Result, Ok, Err, Option, decimal, if◌then◌else◌, bytes_eq};
+ghost use Rattle.std.specs.Prelude.{◌≡◌, ◌↔◌, ◌⊎◌, ℕ, ◌<◌, ◌^◌, ◌++◌, ◌∷◌, [], List, length, map, Bool, true, Result, Ok, Err, Option, decimal, if◌then◌else◌, bytes_eq};
 ghost use Rattle.std.specs.List.{AllByRecursion};
 ghost use Rattle.prof_base.specs.Text.{IsText};
 ghost use Rattle.prof_lines.specs.declared.fault.Cause.{Cause};
@@ -7,7 +7,7 @@ ghost use Rattle.prof_lines.specs.declared.fault.LineFault.{LineFault};
 ghost use Rattle.prof_lines.specs.declared.fault.TextFault.{TextFault};
 ghost use Rattle.prof_lines.specs.declared.fault.Cause.TheVariants.{Word, Number};
 ghost use Rattle.prof_lines.specs.Answers.{Reader, Front, Fails, Reads, IsPlaced, followed};
-ghost use Rattle.prof_lines.specs.Words.{word_at, fixed_at, number_of, number_at, label_at, end_at, optional_at, numbers_at, of_word, is_label, IsLabel, InRange};
+ghost use Rattle.prof_lines.specs.Words.{word_at, fixed_at, number_of, number_at, label_at, end_at, optional_at, numbers_at, of_word, IsLabel, InRange};
 ghost use Rattle.prof_lines.specs.Quoted.{quoted_at};
 ghost use Rattle.prof_lines.specs.Lines.{lines_of, is_passed, counted};
 ghost use Rattle.prof_lines.specs.Folds.{placed, read_lines, read_text, IsFirstFault, IsTextFault};

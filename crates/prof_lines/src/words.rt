@@ -1,5 +1,5 @@
 // The words of a line, from left to right.
-ghost use Rattle.std.specs.Prelude.{◌≡◌, ◌≢◌, ◌≤◌, ◌<◌, ◌^◌, ◌&&◌, ◌+◌, ◌-◌, ◌*◌, length, Some, None, nat_le, if◌then◌else◌, IfOk, IfErr, IfSome, IfNone};
+ghost use Rattle.std.specs.Prelude.{◌≡◌, ◌≢◌, ◌≤◌, ◌<◌, ◌^◌, ◌&&◌, ◌+◌, ◌-◌, ◌*◌, Some, None, nat_le, if◌then◌else◌, IfOk, IfErr, IfSome, IfNone};
 ghost use Rattle.std.specs.List.{list_all};
 ghost use Rattle.prof_lines.specs.Answers.{Gives};
 ghost use Rattle.prof_lines.specs.Words.{is_plain, is_digit, is_letter, begins_with_letter, is_label_byte, is_label, is_numeral, is_end, value_from};

@@ -1,5 +1,7 @@
 // The places of a line, as a case names them.
-use prof_lines::{LineFault, TextFault, end, fixed, label, number, optional, quoted, word};
+use prof_lines::{
+    LineFault, TextFault, end, fixed, label, number, optional, put_quoted, quoted, word,
+};
 use std::alloc::Global;
 use std::str;
 
@@ -49,6 +51,9 @@ fn read_place<'a>(
         "quoted" => {
             let (text, rest) = quoted(alloc, bytes)?;
             put(out, text.bytes())?;
+            let mut written = Vec::new(alloc);
+            put_quoted(&mut written, &text)?;
+            put(out, written.as_slice())?;
             Ok(rest)
         }
         "number" => read_number(alloc, argument, bytes, out),
