@@ -1,0 +1,11 @@
+pub mod Answers
+pub mod Canonical
+pub mod Causes
+pub mod Folds
+pub mod Forms
+pub mod Lines
+pub mod Quoted
+pub mod Refused
+pub mod Spelled
+pub mod Values
+pub mod Words
