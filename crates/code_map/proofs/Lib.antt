@@ -1,0 +1,5 @@
+pub mod CodeStays
+pub mod Histories
+pub mod LatestReason
+pub mod OnOk
+pub mod Starts
