@@ -3,6 +3,7 @@
 #![tactic(auto)]
 
 mod found;
+pub mod laws;
 mod map;
 mod object;
 mod objects;
