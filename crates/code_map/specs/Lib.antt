@@ -1,0 +1,4 @@
+pub mod Objects
+pub mod Parts
+pub mod CodeMap
+pub mod Laws
