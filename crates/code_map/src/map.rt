@@ -32,7 +32,7 @@ impl Model for CodeMap {
 }
 
 impl CodeMap {
-    /// The map before any event. It takes no memory.
+    /// Makes the map before any event. It allocates nothing.
     pub fn new(alloc: Global) -> CodeMap
         ensures ranges { HasRanges result [] }
         ensures reasons { HasReasons result no_reasons }
@@ -43,7 +43,7 @@ impl CodeMap {
         }
     }
 
-    /// Takes the next event. When out of memory, the map is spent.
+    /// Applies the next event. Out of memory, the map is spent.
     pub fn apply(&mut self, event: &CodeEvent) -> Result<(), Memory>
         ensures ranges { OnOk result (RangesFollow self.old self.new event.now) }
         ensures reasons { OnOk result (ReasonsFollow self.old self.new event.now) }
@@ -52,7 +52,8 @@ impl CodeMap {
         change_objects(&mut self.objects, event)
     }
 
-    /// The place of an address, if it lies in a code object. The map may remember it.
+    /// Finds the code object and the slot that an address lies in, if it lies in one. The map may
+    /// remember it.
     pub fn find(&mut self, address: u64) -> Option<Found>
         ensures found { (ranges : List Range) → HasRanges self.old ranges → result ≡ found_at ranges address }
         ensures ranges { RangesStay self.old self.new }
@@ -61,22 +62,21 @@ impl CodeMap {
         place_of(&self.objects, address)
     }
 
-    /// The layout of the code object that starts there.
+    /// Returns the layout of the code object that starts at an address.
     pub fn layout_at(&self, start: u32) -> Option<&Layout>
         ensures { (ranges : List Range) → HasRanges self.now ranges → option_copied result ≡ option_map (λ r. r.layout) (range_at ranges start) }
     {
         layout_at(&self.objects, start)
     }
 
-    /// The latest reason why the function of this entry is not optimised.
+    /// Returns the latest reason why the function of this entry is not optimised.
     pub fn reason_of(&self, entry: &Entry) -> Option<&Text>
         ensures { (reasons : DeoptReasons) → HasReasons self.now reasons → option_copied result ≡ reasons entry.now }
     {
         reason_in(&self.reasons, entry)
     }
 
-    /// Gives each node of a profile the reason of its entry. When out of memory, the profile is
-    /// spent.
+    /// Gives each node of a profile the reason of its entry. Out of memory, the profile is spent.
     pub fn fill_reasons(&self, finished: &mut Finished) -> Result<(), Memory>
         ensures { (reasons : DeoptReasons) → HasReasons self.now reasons → OnOk result (finished.new ≡ with_reasons reasons finished.old) }
     {

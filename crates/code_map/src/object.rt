@@ -26,7 +26,7 @@ impl Model for CodeObject {
 }
 
 impl CodeObject {
-    /// The code object of the layout that starts there.
+    /// Makes the code object of a layout that starts at an address.
     pub(crate) fn new(start: u32, layout: Layout) -> CodeObject
         ensures range { result ≡ range_of start layout }
         ensures code { IsCode result }
@@ -35,7 +35,7 @@ impl CodeObject {
         CodeObject { start, layout }
     }
 
-    /// The code object at another place.
+    /// Moves the code object to another address.
     pub(crate) fn moved_to(self, start: u32) -> CodeObject
         ensures { result ≡ range_of start self.layout }
     {
@@ -43,42 +43,42 @@ impl CodeObject {
         CodeObject { start, layout }
     }
 
-    /// The layout.
+    /// Returns the layout.
     pub(crate) fn layout(&self) -> &Layout
         ensures { result.now ≡ self.now.layout }
     {
         &self.layout
     }
 
-    /// Whether it starts there.
+    /// Returns whether it starts at this address.
     pub(crate) fn starts_at(&self, start: u32) -> bool
         ensures { result ≡ (self.now.start == start) }
     {
         self.start == start
     }
 
-    /// The first address past it, which may lie past 32 bits.
+    /// Returns the first address past it, which may lie past 32 bits.
     fn end(&self) -> u64
         ensures { result ≡ self.now.start + self.now.size }
     {
         u64::from(self.start) + u64::from(self.layout.size())
     }
 
-    /// Whether the two share an address.
+    /// Returns whether the two share an address.
     pub(crate) fn meets(&self, other: &CodeObject) -> bool
         ensures { result ≡ meets self.now other.now }
     {
         u64::from(self.start) < other.end() && u64::from(other.start) < self.end()
     }
 
-    /// Whether the address lies in it.
+    /// Returns whether the address lies in it.
     pub(crate) fn holds(&self, address: u64) -> bool
         ensures { result ≡ holds address self.now }
     {
         u64::from(self.start) <= address && address < self.end()
     }
 
-    /// The place of an address that lies in it.
+    /// Returns the place of an address that lies in it.
     pub(crate) fn place(&self, address: u64) -> Found
         requires { IsTrue (holds address self.now) }
         ensures { result ≡ found_in address self.now }
@@ -92,7 +92,7 @@ impl CodeObject {
         }
     }
 
-    /// The entry of the function that it is made for.
+    /// Returns the entry of the function that it is made for.
     pub(crate) fn entry(&self) -> Option<&Entry>
         ensures { option_copied result ≡ range_entry self.now }
     {

@@ -12,7 +12,7 @@ use crate::object::CodeObject;
 use code_event::{CodeEvent, Entry, Layout};
 use prof_base::Memory;
 
-/// The place of an address, if it lies in one of them.
+/// Finds the place of an address, if it lies in one of the objects.
 pub(crate) fn place_of(objects: &[CodeObject], address: u64) -> Option<Found>
     ensures { result ≡ found_at objects.now address }
 {
@@ -22,14 +22,14 @@ pub(crate) fn place_of(objects: &[CodeObject], address: u64) -> Option<Found>
     }
 }
 
-/// The one that starts there.
+/// Finds the object that starts at an address.
 fn object_at(objects: &[CodeObject], start: u32) -> Option<&CodeObject>
     ensures { option_copied result ≡ range_at objects.now start }
 {
     objects.iter().find(|object| object.starts_at(start))
 }
 
-/// The layout of the one that starts there.
+/// Returns the layout of the object that starts at an address.
 pub(crate) fn layout_at(objects: &[CodeObject], start: u32) -> Option<&Layout>
     ensures { option_copied result ≡ option_map (λ r. r.layout) (range_at objects.now start) }
 {
@@ -39,7 +39,7 @@ pub(crate) fn layout_at(objects: &[CodeObject], start: u32) -> Option<&Layout>
     }
 }
 
-/// The index of the one that starts there.
+/// Finds the index of the object that starts at an address.
 fn index_of(objects: &[CodeObject], start: u32) -> Option<usize>
     ensures index { result ≡ position_from (λ r. r.start == start) 0 objects.now }
     ensures within { IfSome result (λ at. at < length objects.now) }
@@ -47,7 +47,7 @@ fn index_of(objects: &[CodeObject], start: u32) -> Option<usize>
     objects.iter().position(|object| object.starts_at(start))
 }
 
-/// The entry of the function whose code starts there.
+/// Returns the entry of the function whose code starts at an address.
 pub(crate) fn entry_at(objects: &[CodeObject], start: u32) -> Option<&Entry>
     ensures { option_copied result ≡ option_and_then range_entry (range_at objects.now start) }
 {
@@ -57,21 +57,21 @@ pub(crate) fn entry_at(objects: &[CodeObject], start: u32) -> Option<&Entry>
     }
 }
 
-/// Removes the one that starts there.
+/// Removes the object that starts at an address.
 fn remove_object(objects: &mut Vec<CodeObject>, start: u32)
     ensures { objects.new.items ≡ without_range objects.old.items start }
 {
     objects.retain(|object| !object.starts_at(start));
 }
 
-/// Removes those that share an address with the new one.
+/// Removes the objects that share an address with the new one.
 fn remove_overlapped(objects: &mut Vec<CodeObject>, new: &CodeObject)
     ensures { objects.new.items ≡ filter (λ r. not (meets r new.now)) objects.old.items }
 {
     objects.retain(|object| !object.meets(new));
 }
 
-/// Adds one, in the place of those that it overlaps.
+/// Adds an object, and removes those that it overlaps.
 fn put_object(objects: &mut Vec<CodeObject>, new: CodeObject) -> Result<(), Memory>
     ensures { OnOk result (objects.new.items ≡ with_range objects.old.items new) }
 {
@@ -80,7 +80,7 @@ fn put_object(objects: &mut Vec<CodeObject>, new: CodeObject) -> Result<(), Memo
     Ok(())
 }
 
-/// Moves the one that starts there, if any does, in the place of those that it then overlaps.
+/// Moves the object that starts at an address, if any does, and removes those that it then overlaps.
 fn move_object(objects: &mut Vec<CodeObject>, from: u32, to: u32) -> Result<(), Memory>
     ensures { AreCode objects.old.items → OnOk result (objects.new.items ≡ after_event objects.old.items (event.Move from to)) }
 {
@@ -93,7 +93,7 @@ fn move_object(objects: &mut Vec<CodeObject>, from: u32, to: u32) -> Result<(), 
     }
 }
 
-/// The code objects after an event.
+/// Changes the objects as an event does.
 pub(crate) fn change_objects(objects: &mut Vec<CodeObject>, event: &CodeEvent) -> Result<(), Memory>
     ensures objects { AreCode objects.old.items → OnOk result (objects.new.items ≡ after_event objects.old.items event.now) }
     ensures code { AreCode objects.old.items → OnOk result (AllByRecursion IsCode objects.new.items) }

@@ -10,7 +10,7 @@ use crate::objects::entry_at;
 use code_event::{CodeEvent, DeoptReason, Entry, FinNode};
 use prof_base::{Memory, Text};
 
-/// Whether the two are the same.
+/// Returns whether the two entries are the same.
 fn same_entry(one: &Entry, other: &Entry) -> bool
     ensures { result ≡ same_entry one.now other.now }
 {
@@ -21,7 +21,7 @@ fn same_entry(one: &Entry, other: &Entry) -> bool
         && one.column == other.column
 }
 
-/// What was last said of an entry.
+/// Finds the latest reason of an entry, with the entry.
 fn latest_of<'a>(reasons: &'a [DeoptReason], entry: &Entry) -> Option<&'a DeoptReason>
     ensures { option_copied result ≡ find (λ r. same_entry entry.now r.entry) reasons.now }
 {
@@ -30,7 +30,7 @@ fn latest_of<'a>(reasons: &'a [DeoptReason], entry: &Entry) -> Option<&'a DeoptR
         .find(|reason| same_entry(entry, &reason.entry))
 }
 
-/// The latest reason of an entry.
+/// Returns the latest reason of an entry.
 pub(crate) fn reason_in<'a>(reasons: &'a [DeoptReason], entry: &Entry) -> Option<&'a Text>
     ensures { option_copied result ≡ reasons_in reasons.now entry.now }
 {
@@ -52,7 +52,7 @@ fn put_reason(reasons: &mut Vec<DeoptReason>, entry: &Entry, reason: &Text) -> R
     Ok(())
 }
 
-/// Gives the function whose code starts there, if any does, a new reason.
+/// Gives the function whose code starts at an address, if any does, a new reason.
 fn put_reason_at(
     objects: &[CodeObject],
     reasons: &mut Vec<DeoptReason>,
@@ -67,7 +67,7 @@ fn put_reason_at(
     }
 }
 
-/// The reasons after an event, by the code objects before it.
+/// Changes the reasons as an event does, by the code objects before it.
 pub(crate) fn change_reasons(
     objects: &[CodeObject],
     reasons: &mut Vec<DeoptReason>,
@@ -88,7 +88,7 @@ pub(crate) fn change_reasons(
     }
 }
 
-/// A copy of the latest reason of an entry, if it has one.
+/// Copies the latest reason of an entry, if it has one.
 fn copied_reason(reasons: &[DeoptReason], entry: &Entry) -> Result<Option<Text>, Memory>
     ensures { IfOk result (λ copy. copy ≡ reasons_in reasons.now entry.now) }
 {

@@ -68,7 +68,7 @@ pub enum TextFault<C> {
 }
 
 impl<C: Copy> LineFault<C> {
-    /// The fault of a text whose line with this number, counted from 1, has this fault.
+    /// Makes the fault of a text whose line with this number, counted from 1, has this fault.
     pub fn at(self, number: u64) -> TextFault<C>
         ensures { IsPlaced number self result }
     {

@@ -72,14 +72,14 @@ impl<'a> Model for Lines<'a> {
 }
 
 impl<'a> Lines<'a> {
-    /// All lines of a text, numbered from 1. Byte 10 ends a line, and the last one may lack it.
+    /// Makes the reader of all lines of a text, numbered from 1. Byte 10 ends a line, and the last one may lack it.
     pub fn new(text: &'a [u8]) -> Lines<'a>
         ensures { result ≡ left_of 1 text.now }
     {
         Lines { rest: text, at: 1 }
     }
 
-    /// The next line that is not passed over, without its end, and its number.
+    /// Returns the next line that is not passed over, without its end, and its number.
     pub fn next(&mut self) -> Option<(u64, &'a [u8])>
         ensures some { IfSome result (λ x. self.old.lines ≡ (x.0, x.1.now) ∷ self.new.lines) }
         ensures none { IfNone result (self.old.lines ≡ []) }
@@ -93,7 +93,7 @@ impl<'a> Lines<'a> {
         found
     }
 
-    /// The number of the line that comes next, whether or not the text has it.
+    /// Returns the number of the line that comes next, whether or not the text has it.
     pub fn at(&self) -> u64
         ensures { result ≡ self.now.at }
     {

@@ -73,7 +73,7 @@ fn opened(bytes: &[u8]) -> Option<&[u8]>
     }
 }
 
-/// The text in quotes that comes next, without its quotes and with each `\"` and `\\` as the byte that
+/// Reads the text in quotes that comes next, without its quotes and with each `\"` and `\\` as the byte that
 /// it means, and the bytes after it. The fault is `Word` where no text in quotes comes next: one of at
 /// most 200 bytes meant, all printable ASCII, and with a space or the line's end after it.
 #[tactic(auto, unfolding(crate::specs::Quoted::quoted_at))]

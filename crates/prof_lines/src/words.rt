@@ -16,7 +16,7 @@ fn is_plain(bytes: &[u8]) -> bool
         .all(|byte| *byte >= 0x21 && *byte <= 0x7E && *byte != b'"')
 }
 
-/// The plain word that comes next, and the bytes after it. The fault is `Word` where none comes next:
+/// Returns the plain word that comes next, and the bytes after it. The fault is `Word` where none comes next:
 /// no word is left, or the bytes up to the next space or the line's end are not all plain.
 #[tactic(auto, unfolding(crate::specs::Words::word_at))]
 pub fn word<C>(bytes: &[u8]) -> Result<(&[u8], &[u8]), LineFault<C>>
@@ -31,7 +31,7 @@ pub fn word<C>(bytes: &[u8]) -> Result<(&[u8], &[u8]), LineFault<C>>
     Ok(rest.split_at(len))
 }
 
-/// The bytes after the word `wanted`. The fault is `Word` where another word or none comes next.
+/// Returns the bytes after the word `wanted`, which comes next. The fault is `Word` where another word or none comes next.
 #[tactic(auto, unfolding(crate::specs::Words::fixed_at))]
 pub fn fixed<'a, C>(wanted: &[u8], bytes: &'a [u8]) -> Result<&'a [u8], LineFault<C>>
     ensures rest { Gives (λ rest. rest.now) result (fixed_at wanted.now bytes.now) }
@@ -97,7 +97,7 @@ fn in_range(word: &[u8], least: u64, most: u64) -> Option<u64>
     }
 }
 
-/// The number that a plain word is. The fault is `Number` where the word is no number from `least` to
+/// Reads a plain word as a number. The fault is `Number` where the word is no number from `least` to
 /// `most` in decimal, or begins with `0` and is not `0` itself.
 #[tactic(auto, unfolding(crate::specs::Words::number_of))]
 pub fn number_of<C>(word: &[u8], least: u64, most: u64) -> Result<u64, LineFault<C>>
@@ -112,7 +112,7 @@ pub fn number_of<C>(word: &[u8], least: u64, most: u64) -> Result<u64, LineFault
     }
 }
 
-/// The number that comes next, and the bytes after it. The fault is `Word` where no plain word comes
+/// Reads the number that comes next, and returns it with the bytes after it. The fault is `Word` where no plain word comes
 /// next, and `Number` where that word is no number from `least` to `most`, as [`number_of`] has it.
 #[tactic(auto, unfolding(crate::specs::Words::number_at))]
 pub fn number<C>(bytes: &[u8], least: u64, most: u64) -> Result<(u64, &[u8]), LineFault<C>>
@@ -153,7 +153,7 @@ fn is_label(word: &[u8]) -> bool
     begins_with_letter(word) && is_label_bytes(word) && word.len() <= 32
 }
 
-/// The label that comes next, and the bytes after it. The fault is `Word` where another word or none
+/// Returns the label that comes next, and the bytes after it. The fault is `Word` where another word or none
 /// comes next. A label is a letter `a` to `z`, and then at most 31 of these letters, digits and `_`.
 #[tactic(auto, unfolding(crate::specs::Words::label_at))]
 pub fn label<C>(bytes: &[u8]) -> Result<(&[u8], &[u8]), LineFault<C>>
@@ -181,7 +181,7 @@ pub fn end<C>(bytes: &[u8]) -> Result<(), LineFault<C>>
     }
 }
 
-/// Whether the word `wanted` comes next, or the end of the line, which comes after it too. The fault is
+/// Returns whether the word `wanted` comes next, or the end of the line, which comes after it too. The fault is
 /// `Word` where there is anything else.
 #[tactic(auto, unfolding(crate::specs::Words::optional_at))]
 pub fn optional<C>(wanted: &[u8], bytes: &[u8]) -> Result<bool, LineFault<C>>
@@ -196,7 +196,7 @@ pub fn optional<C>(wanted: &[u8], bytes: &[u8]) -> Result<bool, LineFault<C>>
     Ok(true)
 }
 
-/// Whether only spaces are left of the line.
+/// Returns whether only spaces are left of the line.
 pub fn is_end(bytes: &[u8]) -> bool
     ensures { result ≡ is_end bytes.now }
 {

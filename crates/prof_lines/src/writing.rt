@@ -24,7 +24,7 @@ fn put_escaped(out: &mut Vec<u8>, bytes: &[u8]) -> Result<(), Memory>
     Ok(())
 }
 
-/// Adds the text in quotes at the end of `out`. When out of memory, `out` may have got a prefix of it.
+/// Appends the text in quotes to `out`. When out of memory, `out` may have got a prefix of it.
 pub fn put_quoted(out: &mut Vec<u8>, text: &Text) -> Result<(), Memory>
     ensures { OnOk result (out.new.items ≡ out.old.items ++ quoted text.now) }
 {

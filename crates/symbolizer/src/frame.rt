@@ -6,7 +6,7 @@ use code_event::{Entry, PathPair, PathStep};
 use prof_base::{Memory, Sequence};
 use std::alloc::Global;
 
-/// The paths of no frames.
+/// Makes the paths of no frames.
 pub(crate) fn no_paths(alloc: Global) -> PathPair
     ensures { result ≡ no_paths }
 {
@@ -17,7 +17,7 @@ pub(crate) fn no_paths(alloc: Global) -> PathPair
     }
 }
 
-/// Adds a frame, which was called from the frame before.
+/// Appends a frame, which was called from the frame before.
 pub(crate) fn push_frame(paths: &mut PathPair, entry: &Entry, line: u32) -> Result<(), Memory>
     ensures { OnOk result (paths.new ≡ with_frame paths.old (record { entry = entry.now; line = line })) }
 {

@@ -10,14 +10,14 @@ use crate::frame::push_frame;
 use code_event::{Layout, PathPair, Site, Slot, Unit};
 use prof_base::Memory;
 
-/// The unit with this number, if there is one.
+/// Returns the unit with this number, if there is one.
 fn unit_at(layout: &Layout, number: u16) -> Option<&Unit>
     ensures { option_copied result ≡ slice_get layout.now.units number }
 {
     layout.units().get(usize::from(number))
 }
 
-/// Where the unit with this number was inlined, if it was.
+/// Returns where the unit with this number was inlined, if it was.
 fn site_of(layout: &Layout, number: u16) -> Option<Site>
     ensures { result ≡ site_of layout.now.units number }
 {
@@ -27,7 +27,7 @@ fn site_of(layout: &Layout, number: u16) -> Option<Site>
     }
 }
 
-/// Adds the unit with this number, at this line.
+/// Appends the unit with this number, at this line.
 fn push_unit(paths: &mut PathPair, layout: &Layout, number: u16, line: u32) -> Result<(), Memory>
     ensures { OnOk result (paths.new ≡ with_frames paths.old (unit_frame layout.now number line)) }
 {
@@ -37,7 +37,7 @@ fn push_unit(paths: &mut PathPair, layout: &Layout, number: u16, line: u32) -> R
     }
 }
 
-/// Adds the units above one, at most this many, from the outermost on, and then the unit itself.
+/// Appends the units above one, at most `most` of them, from the outermost on, and then the unit itself.
 fn push_units(
     paths: &mut PathPair,
     layout: &Layout,
@@ -56,7 +56,7 @@ fn push_units(
     push_unit(paths, layout, number, line)
 }
 
-/// Adds the functions of a slot, the outermost first.
+/// Appends the functions of a slot, the outermost first.
 pub(crate) fn push_slot(paths: &mut PathPair, layout: &Layout, slot: Slot) -> Result<(), Memory>
     ensures { OnOk result (paths.new ≡ with_frames paths.old (reverse (slot_frames layout.now slot))) }
 {

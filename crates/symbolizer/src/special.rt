@@ -9,7 +9,7 @@ use code_event::{Entry, PathPair};
 use prof_base::{Memory, Text, TextRefused};
 use std::alloc::Global;
 
-/// A text that is short and printable, so that memory alone may be refused.
+/// Makes a text that is short and printable, so that only memory can be refused.
 fn text_of(alloc: Global, text: &str) -> Result<Text, Memory>
     requires { IsText text.now }
     ensures { IfOk result (λ copy. copy ≡ text.now) }
@@ -21,7 +21,7 @@ fn text_of(alloc: Global, text: &str) -> Result<Text, Memory>
     }
 }
 
-/// An entry that is no function, as V8 names it.
+/// Makes an entry that is no function, as V8 names it.
 fn special(alloc: Global, name: &str) -> Result<Entry, Memory>
     requires { IsText name.now }
     ensures { IfOk result (λ entry. entry ≡ special name.now) }
@@ -35,7 +35,7 @@ fn special(alloc: Global, name: &str) -> Result<Entry, Memory>
     })
 }
 
-/// The paths of a tick that names no function.
+/// Makes the paths of a tick that names no function.
 pub(crate) fn special_paths(alloc: Global, name: &str) -> Result<PathPair, Memory>
     requires { IsText name.now }
     ensures { IfOk result (λ paths. paths ≡ paths_of (special_frame name.now)) }

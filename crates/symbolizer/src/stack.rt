@@ -13,7 +13,7 @@ use code_map::{CodeMap, Found};
 use prof_base::Memory;
 use std::alloc::Global;
 
-/// Adds the functions at a place of the code.
+/// Appends the functions at a place of the code.
 fn push_found(paths: &mut PathPair, map: &CodeMap, found: Found) -> Result<(), Memory>
     ensures { (ranges : List Range) → HasRanges map.now ranges → OnOk result (paths.new ≡ with_frames paths.old (reverse (found_frames ranges found))) }
 {
@@ -26,7 +26,7 @@ fn push_found(paths: &mut PathPair, map: &CodeMap, found: Found) -> Result<(), M
     }
 }
 
-/// Adds the functions at an address, if it is anybody's.
+/// Appends the functions at an address, if it lies in a code object.
 fn push_address(paths: &mut PathPair, map: &mut CodeMap, address: u32) -> Result<(), Memory>
     ensures paths { (ranges : List Range) → HasRanges map.old ranges → OnOk result (paths.new ≡ with_frames paths.old (reverse (frames_at ranges address))) }
     ensures ranges { RangesStay map.old map.new }
@@ -38,7 +38,7 @@ fn push_address(paths: &mut PathPair, map: &mut CodeMap, address: u32) -> Result
     }
 }
 
-/// Adds the functions at a return address: those of the call, which is right before it.
+/// Appends the functions at a return address: those of the call, which is right before it.
 fn push_caller(paths: &mut PathPair, map: &mut CodeMap, address: u32) -> Result<(), Memory>
     ensures paths { (ranges : List Range) → HasRanges map.old ranges → OnOk result (paths.new ≡ with_frames paths.old (reverse (caller_frames ranges address))) }
     ensures ranges { RangesStay map.old map.new }
@@ -50,7 +50,7 @@ fn push_caller(paths: &mut PathPair, map: &mut CodeMap, address: u32) -> Result<
     push_address(paths, map, address - 1)
 }
 
-/// Adds the functions at these return addresses, which are youngest first.
+/// Appends the functions at these return addresses, which are youngest first.
 fn push_callers(paths: &mut PathPair, map: &mut CodeMap, callers: &[u32]) -> Result<(), Memory>
     ensures paths { (ranges : List Range) → HasRanges map.old ranges → OnOk result (paths.new ≡ with_frames paths.old (reverse (flat_map (caller_frames ranges) callers.now))) }
     ensures ranges { RangesStay map.old map.new }
@@ -62,7 +62,7 @@ fn push_callers(paths: &mut PathPair, map: &mut CodeMap, callers: &[u32]) -> Res
     Ok(())
 }
 
-/// Adds the functions on a stack of addresses, which are youngest first.
+/// Appends the functions on a stack of addresses, which are youngest first.
 fn push_stack(paths: &mut PathPair, map: &mut CodeMap, addresses: &[u32]) -> Result<(), Memory>
     ensures paths { (ranges : List Range) → HasRanges map.old ranges → OnOk result (paths.new ≡ with_frames paths.old (reverse (stack_frames ranges addresses.now))) }
     ensures ranges { RangesStay map.old map.new }
@@ -75,7 +75,7 @@ fn push_stack(paths: &mut PathPair, map: &mut CodeMap, addresses: &[u32]) -> Res
     Ok(())
 }
 
-/// The paths of a tick in guest code, of which these are the addresses, youngest first.
+/// Finds the paths of a tick in guest code, of which these are the addresses, youngest first.
 pub(crate) fn stack_paths(
     alloc: Global,
     map: &mut CodeMap,

@@ -13,7 +13,7 @@ use code_map::CodeMap;
 use prof_base::Memory;
 use std::alloc::Global;
 
-/// The paths of a tick, in both modes, over the code that the map has.
+/// Finds the paths of a tick, in both modes, over the code that the map has.
 fn tick_paths(alloc: Global, map: &mut CodeMap, tick: &Tick) -> Result<PathPair, Memory>
     ensures paths { (ranges : List Range) → HasRanges map.old ranges → IfOk result (λ paths. paths ≡ paths_of (tick_frames ranges tick.now)) }
     ensures ranges { RangesStay map.old map.new }
@@ -27,7 +27,7 @@ fn tick_paths(alloc: Global, map: &mut CodeMap, tick: &Tick) -> Result<PathPair,
     }
 }
 
-/// The paths of a tick, in both modes, over the code that the map has.
+/// Finds the paths of a tick, in both modes, over the code that the map has.
 pub fn paths(alloc: Global, map: &mut CodeMap, tick: &Tick) -> Result<PathPair, Memory>
     ensures leaf { (ranges : List Range) → HasRanges map.old ranges → IfOk result (λ paths. paths.leaf ≡ path Leaf (tick_frames ranges tick.now)) }
     ensures caller { (ranges : List Range) → HasRanges map.old ranges → IfOk result (λ paths. paths.caller ≡ path Caller (tick_frames ranges tick.now)) }
