@@ -1,0 +1,2 @@
+-- The counts of hits by line.
+use Rattle.std.proofs.Common.{◌≡◌, arith}
