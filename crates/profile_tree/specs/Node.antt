@@ -1,8 +1,8 @@
 -- Nodes of a linked tree.
 use Rattle.std.specs.Prelude.{ℕ, ◌+◌, List, [], ◌∷◌, Bool, Option, Some, None, nat_lt, cond, codes}
 use Rattle.std.specs.declared.cmp.Ordering.{Ordering}
-use Rattle.std.specs.declared.cmp.Ordering.TheVariants.{Greater}
-use Rattle.std.specs.Ordering.{is_lt, is_eq, nat_cmp}
+use Rattle.std.specs.declared.cmp.Ordering.TheVariants.{Less, Equal, Greater}
+use Rattle.std.specs.Ordering.{nat_cmp}
 use Rattle.std.specs.List.{insert}
 use Rattle.code_event.specs.Tree.{path_step_cmp}
 use Rattle.code_event.specs.Symbolizer.{special}
@@ -25,12 +25,16 @@ pub record LinkedNode : Type 0 where
 abbrev pub fresh : ℕ → Option PathStep → LinkedNode
 fresh parent step = record { step = step; parent = parent; children = []; last = None; hits = 0; lines = [] }
 
+-- one more hit at a line, by how it compares with the first line
+abbrev pub put_before : Ordering → ℕ → LineTicks → List LineTicks → List LineTicks → List LineTicks
+put_before Less line first rest later = record { line = line; ticks = 1 } ∷ first ∷ rest
+put_before Equal line first rest later = record { line = first.line; ticks = first.ticks + 1 } ∷ rest
+put_before Greater line first rest later = first ∷ later
+
 -- one more hit at a line
 abbrev pub put_line : ℕ → List LineTicks → List LineTicks
 put_line line [] = record { line = line; ticks = 1 } ∷ []
-put_line line (first ∷ rest) =
-    cond (is_lt (nat_cmp line first.line)) (record { line = line; ticks = 1 } ∷ first ∷ rest)
-    (cond (is_eq (nat_cmp line first.line)) (record { line = first.line; ticks = first.ticks + 1 } ∷ rest) (first ∷ put_line line rest))
+put_line line (first ∷ rest) = put_before (nat_cmp line first.line) line first rest (put_line line rest)
 
 -- line 0 stands for none
 abbrev pub with_line : ℕ → List LineTicks → List LineTicks
