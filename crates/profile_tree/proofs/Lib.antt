@@ -3,3 +3,6 @@ pub mod ArenaNodes
 pub mod LineCounts
 pub mod RisingLists
 pub mod PathsAfter
+pub mod LinkedNodes
+pub mod PathSteps
+pub mod LinkedChild

@@ -1,5 +1,5 @@
 -- How the links of nodes are a tree.
-use Rattle.std.specs.Prelude.{◌≡◌, ℕ, ◌+◌, ◌<◌, ◌^◌, List, [], ◌∷◌, ◌++◌, length, map, Option, Some, None, IfSome, slice_index_or}
+use Rattle.std.specs.Prelude.{◌≡◌, ℕ, ◌+◌, ◌<◌, ◌^◌, List, [], ◌∷◌, ◌++◌, length, map, Option, Some, None, slice_index_or}
 use Rattle.std.specs.List.{Contains}
 use Rattle.prof_base.specs.Ordered.{Rises}
 use Rattle.code_event.specs.Tree.{path_cmp}
@@ -29,7 +29,9 @@ paths_of nodes = paths_after [] nodes
 -- a node below the root: its path is one step longer than its parent's, which has it among its children
 pub record IsPlaced (paths : List (List PathStep)) (nodes : List LinkedNode) (key : ℕ) : Type 0 where
   pub parent_in : (node_at nodes key).parent < length nodes
-  pub path : path_at paths key ≡ path_of paths (node_at nodes key)
+  pub step : PathStep
+  pub by : (node_at nodes key).step ≡ Some step
+  pub path : path_at paths key ≡ path_at paths (node_at nodes key).parent ++ step ∷ []
   pub listed : Contains (node_at nodes (node_at nodes key).parent).children key
 
 -- a child of a node
@@ -46,7 +48,7 @@ pub record LinkedBy (paths : List (List PathStep)) (nodes : List LinkedNode) : T
   pub root : path_at paths 0 ≡ []
   pub placed : (key : ℕ) → 0 < key → key < length nodes → IsPlaced paths nodes key
   pub children : (key child : ℕ) → key < length nodes → Contains (node_at nodes key).children child → IsChild nodes key child
-  pub last : (key : ℕ) → key < length nodes → IfSome (node_at nodes key).last (IsChild nodes key)
+  pub last : (key child : ℕ) → key < length nodes → (node_at nodes key).last ≡ Some child → IsChild nodes key child
   pub distinct : (one other : ℕ) → one < length nodes → other < length nodes → path_at paths one ≡ path_at paths other → one ≡ other
   pub rises : (key : ℕ) → key < length nodes → Rises path_cmp (map (path_at paths) (node_at nodes key).children)
 

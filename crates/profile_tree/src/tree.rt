@@ -77,7 +77,8 @@ impl Tree {
         requires { key < length self.old.paths }
         ensures { OnOk result (self.new ≡ with_hit self.old key line) }
     {
-        self.nodes.count(key, line)
+        self.nodes.count(key, line)?;
+        Ok(())
     }
 
     /// Adds a tick with this path, which was at a line of its last function, or at 0 for none. The
