@@ -6,3 +6,7 @@ pub mod PathsAfter
 pub mod LinkedNodes
 pub mod PathSteps
 pub mod LinkedChild
+pub mod GrownNodes
+pub mod ByStep
+pub mod TreeStart
+pub mod StepDowns

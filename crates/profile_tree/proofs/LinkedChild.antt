@@ -147,7 +147,7 @@ module _ (paths : List (List PathStep)) (nodes : List LinkedNode) (parent at : �
     child_kept : (k child : ℕ) → IsChild nodes k child → IsChild next k child
     child_kept k child was = record { later = was.later; within = omega (arith, sized, was.within); under = parent_below child was.within ∙ was.under }
 
-    child_new : (child : ℕ) → child ≡ length nodes → IsChild next parent child
+    pub child_new : (child : ℕ) → child ≡ length nodes → IsChild next parent child
     child_new child e = record { later = omega (arith, e, low); within = omega (arith, sized, e); under = ap (λ n. n.parent) (node_top child e) }
 
     placed_below : (k : ℕ) → k < length nodes → IsPlaced paths nodes k → IsPlaced next_paths next k

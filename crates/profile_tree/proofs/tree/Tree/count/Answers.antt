@@ -1,9 +1,27 @@
+use Rattle.std.proofs.Common.{◌<◌, length, refl, sym, ap, ◌∙◌, subst, arith}
+use Rattle.profile_tree.specs.Node.{counted}
+use Rattle.profile_tree.specs.Arena.{node_at}
+use Rattle.profile_tree.specs.Linked.{Linked}
+use Rattle.profile_tree.specs.Grown.{grown, with_hit}
+use Rattle.profile_tree.proofs.PathsAfter.{length-paths_of}
 use Rattle.profile_tree.proofs.LinkedNodes.{linked_written}
-use Rattle.profile_tree.proofs.LinkedChild.{linked_child}
+use Rattle.profile_tree.proofs.GrownNodes.{grown-counted}
+use Rattle.profile_tree.proofs.ByStep.{child_by_step}
 use Rattle.profile_tree.proofs.tree.Tree.count.Goals as goal
 
 pub invariant_of-self : goal.invariant_of-self
-invariant_of-self c = ?
+invariant_of-self c = subst Linked (sym c.in_err-count.ensures.err) c.self.invariant
+
+pub invariant_of-self-2 : goal.invariant_of-self-2
+invariant_of-self-2 c =
+    let nodes = c.self.inside.nodes in
+    let low : c.args.key < length nodes = omega (arith, c.requires, ap (λ g. length g.paths) c.self.view_is, length-paths_of nodes) in
+    subst Linked (sym c.in_ok-count.ensures.ok)
+    (linked_written nodes c.args.key (counted (node_at nodes c.args.key) c.args.line) c.self.invariant low (record { step = refl; parent = refl; children = refl })
+    (λ child e. c.self.invariant.last c.args.key child low e))
 
 pub returns : goal.returns
-returns c = ?
+returns c =
+    let nodes = c.self.inside.nodes in
+    let low : c.args.key < length nodes = omega (arith, c.requires, ap (λ g. length g.paths) c.self.view_is, length-paths_of nodes) in
+    ap grown c.in_ok-count.ensures.ok ∙ grown-counted nodes c.args.key c.args.line low ∙ ap (λ g. with_hit g c.args.key c.args.line) c.self.view_is
