@@ -6,9 +6,9 @@ use Rattle.std.proofs.lemmas.List.{map-set, set-get_or, get_or-map, map_push}
 use Rattle.code_event.specs.declared.path.PathStep.{PathStep}
 use Rattle.profile_tree.specs.Node.{LinkedNode, fresh, counted, with_line}
 use Rattle.profile_tree.specs.Arena.{node_at, with_child, with_last}
-use Rattle.profile_tree.specs.Linked.{path_at, paths_of}
+use Rattle.profile_tree.specs.Linked.{path_at, paths_of, Linked}
 use Rattle.profile_tree.specs.Grown.{Counts, counts, Grown, grown, no_counts, with_hit}
-use Rattle.profile_tree.proofs.PathsAfter.{paths_of-set}
+use Rattle.profile_tree.proofs.PathsAfter.{paths_of-set, length-paths_of}
 use Rattle.profile_tree.proofs.LinkedChild.{paths_of-with_child}
 
 same_grown : (paths others : List (List PathStep)) (one other : List Counts) → paths ≡ others → one ≡ other → ◌≡◌ {A = Grown} (record { paths = paths; counts = one }) (record { paths = others; counts = other })
@@ -34,3 +34,10 @@ counts-with_child nodes parent at step low =
     map_push counts (set nodes parent put) (fresh parent (Some step))
     ∙ ap (λ l. l ++ no_counts ∷ [])
     (map-set counts nodes parent put ∙ ap (set (map counts nodes) parent) (sym (get_or-map counts nodes parent (fresh 0 None) no_counts low)) ∙ set-get_or (map counts nodes) parent no_counts)
+
+-- no other node has the path of this one
+abbrev pub OneAlone : ℕ → Grown → Type 0
+OneAlone key tree = (other : ℕ) → other < length tree.paths → path_at tree.paths other ≡ path_at tree.paths key → other ≡ key
+
+pub alone_in : (nodes : List LinkedNode) (key : ℕ) → Linked nodes → key < length (paths_of nodes) → OneAlone key (grown nodes)
+alone_in nodes key linked low other within e = linked.distinct other key (omega (arith, within, length-paths_of nodes)) (omega (arith, low, length-paths_of nodes)) e

@@ -10,3 +10,4 @@ pub mod GrownNodes
 pub mod ByStep
 pub mod TreeStart
 pub mod StepDowns
+pub mod WayDown

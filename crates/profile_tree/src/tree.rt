@@ -1,9 +1,10 @@
 // Trees that grow tick by tick.
-ghost use Rattle.std.specs.Prelude.{◌≡◌, ◌<◌, ◌++◌, [], ◌∷◌, List, length, map, IfOk, OnOk};
-ghost use Rattle.std.specs.List.{All, AllZip};
+ghost use Rattle.std.specs.Prelude.{◌≡◌, ℕ, ◌<◌, ◌++◌, [], ◌∷◌, List, length, map, Some, IfOk, OnOk};
+ghost use Rattle.std.specs.List.{All, AllZip, slice_get};
 ghost use Rattle.code_event.specs.DeoptReasons.{no_reasons};
 ghost use Rattle.code_event.specs.Tree.{nodes, id_of, fin_nodes};
 ghost use Rattle.code_event.specs.declared.visit.Visit.{Visit};
+ghost use Rattle.profile_tree.specs.Linked.{path_at};
 ghost use Rattle.profile_tree.specs.Grown.{StandsFor, Names, NamesSome, IsStepDown, GrowsAlong, with_hit};
 
 use crate::arena::Arena;
@@ -46,6 +47,14 @@ impl Tree {
         })
     }
 
+    // The key of the root.
+    fn root(&self) -> usize
+        ensures { slice_get self.now.paths result ≡ Some [] }
+    {
+        let _ = &self.nodes;
+        0
+    }
+
     // The child of a node by a step, which is made where there is none.
     fn child(&mut self, parent: usize, step: &PathStep) -> Result<usize, Memory>
         requires { parent < length self.old.paths }
@@ -62,20 +71,23 @@ impl Tree {
         Ok(child)
     }
 
-    // The node of a path, which is made with all above it where there is none.
+    // The node of a path, which is made with all nodes above it where there is none.
     fn node(&mut self, path: &[PathStep]) -> Result<usize, Memory>
         ensures { IfOk result (GrowsAlong self.old self.new path.now) }
     {
-        let mut key = 0;
+        let mut key = self.root();
         for step in path {
             key = self.child(key, step)?;
         }
         Ok(key)
     }
 
+    // Counts a hit of a node, which is the only one with its path.
     fn count(&mut self, key: usize, line: u32) -> Result<(), Memory>
         requires { key < length self.old.paths }
-        ensures { OnOk result (self.new ≡ with_hit self.old key line) }
+        ensures ok { OnOk result (self.new ≡ with_hit self.old key line) }
+        ensures alone { OnOk result ((other : ℕ) → other < length self.old.paths → path_at self.old.paths other ≡ path_at self.old.paths key
+            → other ≡ key) }
     {
         self.nodes.count(key, line)?;
         Ok(())
