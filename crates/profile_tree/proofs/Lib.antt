@@ -11,3 +11,6 @@ pub mod ByStep
 pub mod TreeStart
 pub mod StepDowns
 pub mod WayDown
+pub mod HitLines
+pub mod VisitCounts
+pub mod Standing
