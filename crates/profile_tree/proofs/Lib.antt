@@ -14,3 +14,5 @@ pub mod WayDown
 pub mod HitLines
 pub mod VisitCounts
 pub mod Standing
+pub mod ApartPaths
+pub mod Walking

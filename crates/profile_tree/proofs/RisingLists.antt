@@ -1,12 +1,14 @@
 -- Lists that rise in an order: what is put in at its place, and that two with the same elements are equal.
-use Rattle.std.proofs.Common.{◌≡◌, ℕ, zero, suc, ◌<◌, ◌≤◌, List, [], ◌∷◌, ◌++◌, length, map, get_or, Bool, true, true≢false, ◌⊎◌, inl, inr, Ordering, Less, Equal, Greater, is_lt, is_eq, is_gt, refl, sym, ap, ap₂, ◌∙◌, subst, arith}
+use Rattle.std.proofs.Common.{◌≡◌, ℕ, zero, suc, ◌+◌, ◌<◌, ◌≤◌, List, [], ◌∷◌, ◌++◌, length, map, get_or, Bool, true, true≢false, cond, ◌⊎◌, inl, inr, Ordering, Less, Equal, Greater, is_lt, is_eq, is_gt, refl, sym, ap, ap₂, ◌∙◌, subst, arith}
 use Rattle.std.specs.List.{insert, filter, AllByRecursion}
 use Rattle.std.specs.Ordering.{ordering_reverse}
 use Rattle.std.specs.Cmp.{IsTotalOrder}
 use Rattle.std.proofs.lemmas.Cmp.{tied_itself}
 use Rattle.std.proofs.lemmas.Bool.{cond_both}
-use Rattle.prof_base.specs.Ordered.{AllAfter, Rises}
-use Rattle.prof_base.proofs.Ordered.{Has, after_has}
+use Rattle.std.proofs.lemmas.List.Elements.{Contains-get_or}
+use Rattle.std.proofs.lemmas.Map.Lookups.{CmpEqualImpliesEq}
+use Rattle.prof_base.specs.Ordered.{insert_sorted, AllAfter, Rises}
+use Rattle.prof_base.proofs.Ordered.{Has, has_from_contains, after_has, put_has, put_keeps, put_rises}
 
 module _ {K : Type 0} where
   -- an element of a list with one more
@@ -129,3 +131,69 @@ module _ {K : Type 0} where
     pub filter_rises : (p : K → Bool) (ys : List K) → Rises R ys → Rises R (filter p ys)
     filter_rises p [] rises = tt
     filter_rises p (y ∷ ys) rises = cond_both (p y) (y ∷ filter p ys) (filter p ys) (Rises R) (λ e. (filter_after p y ys rises.0, filter_rises p ys rises.1)) (λ e. filter_rises p ys rises.1)
+
+    -- ---- a rising list is no longer than a list that has all its elements
+
+    length-insert_sorted : (x : K) (ys : List K) → length (insert_sorted R x ys) ≤ length ys + 1
+    length-insert_sorted x [] = omega arith
+    length-insert_sorted x (y ∷ ys) =
+        let rest = length-insert_sorted x ys in
+        cond_both (is_lt (R x y)) (x ∷ y ∷ ys) (cond (is_eq (R x y)) (y ∷ ys) (y ∷ insert_sorted R x ys)) (λ l. length l ≤ length (y ∷ ys) + 1)
+        (λ e. omega arith)
+        (λ e. cond_both (is_eq (R x y)) (y ∷ ys) (y ∷ insert_sorted R x ys) (λ l. length l ≤ length (y ∷ ys) + 1) (λ f. omega arith) (λ f. omega (arith, rest)))
+
+    abbrev sorted : List K → List K
+    sorted [] = []
+    sorted (x ∷ xs) = insert_sorted R x (sorted xs)
+
+    sorted_rises : (xs : List K) → Rises R (sorted xs)
+    sorted_rises [] = tt
+    sorted_rises (x ∷ xs) = put_rises R o x (sorted xs) (sorted_rises xs)
+
+    sorted_has : CmpEqualImpliesEq R → (xs : List K) (z : K) → Has xs z → Has (sorted xs) z
+    sorted_has exact [] z h = h
+    sorted_has exact (x ∷ xs) z (inl same) = subst (Has (insert_sorted R x (sorted xs))) same (put_has R exact x (sorted xs))
+    sorted_has exact (x ∷ xs) z (inr h) = put_keeps R x z (sorted xs) (sorted_has exact xs z h)
+
+    length-sorted : (xs : List K) → length (sorted xs) ≤ length xs
+    length-sorted [] = omega arith
+    length-sorted (x ∷ xs) = omega (arith, length-insert_sorted x (sorted xs), length-sorted xs)
+
+    past_first : (x y z : K) (ys : List K) → R y x ≡ Less → R x z ≡ Less → Has (y ∷ ys) z → Has ys z
+    past_first x y z ys first later (inl same) = absurd (not_both_below y x first (subst (λ w. R x w ≡ Less) (sym same) later))
+    past_first x y z ys first later (inr there) = there
+
+    rises_within : (xs ys : List K) → Rises R xs → Rises R ys → ((z : K) → Has xs z → Has ys z) → length xs ≤ length ys
+    rises_within [] ys up over within = omega arith
+    rises_within (x ∷ xs) [] up over within = absurd (within x (inl refl))
+    rises_within (x ∷ xs) (y ∷ ys) up over within = elim (within x (inl refl)) [
+      | inl same ↦ omega (arith, rises_within xs ys up.1 over.1 (λ z h. later_only x y z xs ys up.0 (sym same) h (within z (inr h))))
+      | inr there ↦
+          let first = after_has R y x ys over.0 there in
+          let all : (z : K) → Has (x ∷ xs) z → Has ys z = (λ z h. elim h [
+            | inl same ↦ subst (Has ys) same there
+            | inr more ↦ past_first x y z ys first (after_has R x z xs up.0 more) (within z (inr more))
+          ]) in
+          omega (arith, rises_within (x ∷ xs) ys up over.1 all)
+    ]
+
+    pub rises_fit : CmpEqualImpliesEq R → (xs ys : List K) → Rises R xs → ((z : K) → Has xs z → Has ys z) → length xs ≤ length ys
+    rises_fit exact xs ys up within =
+        omega (arith, rises_within xs (sorted ys) up (sorted_rises ys) (λ z h. sorted_has exact ys z (within z h)), length-sorted ys)
+
+    -- ---- one more at the end
+
+    all_push : (x y : K) (xs : List K) → AllAfter R x xs → R x y ≡ Less → AllAfter R x (xs ++ y ∷ [])
+    all_push x y [] all e = (e, tt)
+    all_push x y (z ∷ zs) all e = (all.0, all_push x y zs all.1 e)
+
+    pub rises_push : (xs : List K) (y : K) → Rises R xs → ((x : K) → Has xs x → R x y ≡ Less) → Rises R (xs ++ y ∷ [])
+    rises_push [] y up below = (tt, tt)
+    rises_push (x ∷ xs) y up below = (all_push x y xs up.0 (below x (inl refl)), rises_push xs y up.1 (λ z h. below z (inr h)))
+
+    pub rises_at : (xs : List K) (i j : ℕ) (d : K) → Rises R xs → i < j → j < length xs → R (get_or xs i d) (get_or xs j d) ≡ Less
+    rises_at [] i j d up low within = absurd (omega arith)
+    rises_at (x ∷ xs) i zero d up low within = absurd (omega arith)
+    rises_at (x ∷ xs) zero (suc j) d up low within =
+        after_has R x (get_or xs j d) xs up.0 (has_from_contains xs (get_or xs j d) (Contains-get_or xs j d (omega arith)))
+    rises_at (x ∷ xs) (suc i) (suc j) d up low within = rises_at xs i j d up.1 (omega arith) (omega arith)

@@ -31,10 +31,10 @@ prefix_push (y ∷ part) (z ∷ path) x h =
       | inr begins ↦ inr (begins.0, ap₂ (λ l m. l ++ m) same begins.1)
     ]
 
-prefix_longer : {A : Type 0} (part path more : List A) → IsPrefix part path → IsPrefix part (path ++ more)
+pub prefix_longer : {A : Type 0} (part path more : List A) → IsPrefix part path → IsPrefix part (path ++ more)
 prefix_longer part path more h = (h.0 ++ more, ap (λ l. l ++ more) h.1 ∙ append_assoc part h.0 more)
 
-prefix_whole : {A : Type 0} (part path : List A) → part ≡ path → IsPrefix part path
+pub prefix_whole : {A : Type 0} (part path : List A) → part ≡ path → IsPrefix part path
 prefix_whole part path e = ([], sym e ∙ sym (append-nil part))
 
 no_prefix : {A : Type 0} (part : List A) → IsPrefix part [] → part ≡ []
