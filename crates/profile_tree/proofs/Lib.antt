@@ -16,3 +16,5 @@ pub mod VisitCounts
 pub mod Standing
 pub mod ApartPaths
 pub mod Walking
+pub mod NodeOrder
+pub mod Finishing

@@ -223,6 +223,7 @@ module _ (paths : List (List PathStep)) (nodes : List LinkedNode) (parent at : �
       some = omega (arith, sized);
       few = few;
       root = path_below 0 old.some ∙ old.root;
+      first = step_below 0 old.some ∙ old.first;
       placed = λ k later within. elim (below_or_top k (length nodes) (omega (arith, sized, within))) [
         | inl below ↦ placed_below k below (old.placed k later below)
         | inr top ↦ placed_new k top

@@ -66,6 +66,7 @@ module _ (paths : List (List PathStep)) (nodes : List LinkedNode) (key : ℕ) (n
     some = omega (arith, sized, old.some);
     few = omega (arith, sized, old.few);
     root = old.root;
+    first = (links 0).step ∙ old.first;
     placed = λ k later within. placed_kept k (old.placed k later (omega (arith, sized, within)));
     children = λ k child within has.
       child_kept k child (old.children k child (omega (arith, sized, within)) (subst (λ l. Contains l child) (links k).children has));

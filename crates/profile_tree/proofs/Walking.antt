@@ -4,7 +4,7 @@ use Rattle.std.specs.Prelude.{slice_index, reverse}
 use Rattle.std.specs.List.{All, Contains}
 use Rattle.std.proofs.lemmas.Bool.{cases_eq}
 use Rattle.std.proofs.lemmas.List.{append-nil, append_assoc, length-append, length-map, get_or-map, map-append, same_from_push, nil_from_length, reverse-append, reverse-reverse}
-use Rattle.std.proofs.lemmas.List.Elements.{Contains-get_or}
+use Rattle.std.proofs.lemmas.List.Elements.{Contains-get_or, All-contains}
 use Rattle.prof_base.specs.Ordered.{Rises}
 use Rattle.prof_base.specs.Prefix.{IsPrefix}
 use Rattle.prof_base.proofs.Ordered.{Has, has_from_contains, contains_from_has, after_has}
@@ -36,6 +36,20 @@ pub record Walked (nodes : List LinkedNode) (order pending : List ℕ) : Type 0 
   pub ahead : (key next : ℕ) → Has order key → Has pending next → path_cmp (path_at (paths_of nodes) key) (path_at (paths_of nodes) next) ≡ Less
   pub apart : AreApart path_step_cmp (path_at (paths_of nodes)) pending
   pub covered : (key : ℕ) → key < length nodes → Has order key ⊎ ((next : ℕ) × Has pending next × IsPrefix (path_at (paths_of nodes) next) (path_at (paths_of nodes) key))
+
+-- an order has no more keys than there are nodes
+pub order_long : (nodes : List LinkedNode) (order : List ℕ) → ((key : ℕ) → Has order key → key < length nodes) → Rises path_cmp (map (path_at (paths_of nodes)) order) → length order ≤ length nodes
+order_long nodes order within rises =
+    let paths = paths_of nodes in
+    let fit = rises_fit path_cmp path_total exact_path (map (path_at paths) order) paths rises
+    (λ p has.
+    let one = mapped_has (path_at paths) order p has in
+    let low : one.0 < length paths = omega (arith, within one.0 one.1, length-paths_of nodes) in
+    subst (Has paths) one.2 (has_from_contains paths (path_at paths one.0) (Contains-get_or paths one.0 [] low))) in
+    omega (arith, fit, length-map order (path_at paths), length-paths_of nodes)
+
+pub preorder_long : (nodes : List LinkedNode) (order : List ℕ) → IsPreorder nodes order → length order ≤ length nodes
+preorder_long nodes order is = order_long nodes order (λ key has. All-contains (λ k. k < length nodes) order key is.within (contains_from_has order key has)) is.rises
 
 module _ (nodes : List LinkedNode) (linked : Linked nodes) where
   abbrev path : ℕ → List PathStep
@@ -168,13 +182,7 @@ module _ (nodes : List LinkedNode) (linked : Linked nodes) where
     }
 
   pub walked_long : (order pending : List ℕ) → Walked nodes order pending → length order ≤ length nodes
-  walked_long order pending walked =
-      let fit = rises_fit path_cmp path_total exact_path (map path order) (paths_of nodes) walked.rises
-      (λ p has.
-      let one = mapped_has path order p has in
-      let within : one.0 < length (paths_of nodes) = omega (arith, walked.order_in one.0 one.1, length-paths_of nodes) in
-      subst (Has (paths_of nodes)) one.2 (has_from_contains (paths_of nodes) (path one.0) (Contains-get_or (paths_of nodes) one.0 [] within))) in
-      omega (arith, fit, length-map order path, length-paths_of nodes)
+  walked_long order pending walked = order_long nodes order walked.order_in walked.rises
 
   pub walk_ends : (order : List ℕ) → Walked nodes order [] → IsPreorder nodes order
   walk_ends order walked = record {

@@ -46,6 +46,7 @@ pub record LinkedBy (paths : List (List PathStep)) (nodes : List LinkedNode) : T
   pub some : 0 < length nodes
   pub few : length nodes < 2 ^ 32
   pub root : path_at paths 0 ≡ []
+  pub first : (node_at nodes 0).step ≡ None
   pub placed : (key : ℕ) → 0 < key → key < length nodes → IsPlaced paths nodes key
   pub children : (key child : ℕ) → key < length nodes → Contains (node_at nodes key).children child → IsChild nodes key child
   pub last : (key child : ℕ) → key < length nodes → (node_at nodes key).last ≡ Some child → IsChild nodes key child

@@ -1,6 +1,6 @@
 use Rattle.std.proofs.Common.{◌≡◌, ◌<◌, ◌≤◌, List, [], ◌∷◌, ◌++◌, length, refl, sym, ap, ap₂, ◌∙◌, subst, inl, arith, length-append}
 use Rattle.std.specs.Prelude.{reverse}
-use Rattle.profile_tree.specs.Linked.{Linked}
+use Rattle.std.proofs.lemmas.List.{nil_from_length}
 use Rattle.profile_tree.proofs.Walking.{Walked, walk_starts, walks_on, walked_long, walk_ends, turned_pop, turned_push}
 use Rattle.profile_tree.proofs.walk.preorder.Goals as goal
 
@@ -32,4 +32,7 @@ pub loop-key-preserved : goal.loop-key-preserved
 loop-key-preserved c = after c
 
 pub returns : goal.returns
-returns c = let a = c.in_default.ensures.cases in let b = c.in_default.is in let d = c.loop-key.stack.ok in let e = c.pop.ensures.cases in ?
+returns c =
+    let nodes = c.args.nodes.now in
+    let empty : c.loop-key.stack.items ≡ [] = nil_from_length c.loop-key.stack.items (omega (arith, c.in_default.ensures.cases.0, c.loop-key.stack.ok.0)) in
+    walk_ends nodes c.requires c.loop-key.order.items (subst (λ stack. Walked nodes c.loop-key.order.items (reverse stack)) empty c.loop-key.invariant)
