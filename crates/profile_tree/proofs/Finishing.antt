@@ -1,10 +1,10 @@
 -- The finished nodes and samples are those of the definition.
-use Rattle.std.proofs.Common.{◌≡◌, ◌≢◌, ℕ, suc, ◌+◌, ◌-◌, ◌<◌, ◌≤◌, List, [], ◌∷◌, ◌++◌, length, map, get_or, refl, sym, ap, ap₂, ◌∙◌, subst, arith, inl, inr}
+use Rattle.std.proofs.Common.{◌≡◌, ◌≢◌, ℕ, suc, ◌+◌, ◌-◌, ◌<◌, ◌≤◌, ◌^◌, List, [], ◌∷◌, ◌++◌, length, map, get_or, refl, sym, ap, ap₂, ◌∙◌, subst, arith, inl, inr}
 use Rattle.std.specs.Prelude.{Some, None, slice_index}
 use Rattle.std.specs.List.{All, AllZip, Contains, slice_get}
 use Rattle.std.proofs.lemmas.Bool.{cases_eq}
 use Rattle.std.proofs.lemmas.List.{length-map, get_or-map}
-use Rattle.std.proofs.lemmas.List.Elements.{All-weaker, Contains-get_or}
+use Rattle.std.proofs.lemmas.List.Elements.{All-weaker, All-map, Contains-get_or}
 use Rattle.std.proofs.lemmas.Option.{slice_get_within, get_or_from_slice_get}
 use Rattle.std.proofs.lemmas.Simd.{map-map}
 use Rattle.prof_base.proofs.Ordered.{Has, contains_from_has}
@@ -90,3 +90,8 @@ samples_within tree samples all = All-weaker (NamesSome (grown tree)) (λ refere
 pub children_within : (tree : List LinkedNode) (key : ℕ) → Linked tree → key < length tree → All (λ child. child < length tree) (node_at tree key).children
 children_within tree key linked low =
     λ k d within. (linked.children key (get_or (node_at tree key).children k d) low (Contains-get_or (node_at tree key).children k d within)).within
+
+pub hits_within : (tree : List LinkedNode) → Linked tree → (ids order : List ℕ) → All (λ key. key < length tree) order → All (λ node. node.hits < 2 ^ 53) (map (λ key. finished_node ids (node_at tree key)) order)
+hits_within tree linked ids order within =
+    All-map (λ node. node.hits < 2 ^ 53) (λ key. finished_node ids (node_at tree key)) order
+    (All-weaker (λ key. key < length tree) (λ key. (node_at tree key).hits < 2 ^ 53) (λ key low. linked.few_hits key low) order within)

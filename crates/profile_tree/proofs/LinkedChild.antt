@@ -124,6 +124,12 @@ module _ (paths : List (List PathStep)) (nodes : List LinkedNode) (parent at : �
       | inr differs ↦ ap (λ n. n.last) (node_other k within differs)
     ]
 
+    hits_below : (k : ℕ) → k < length nodes → (node_at next k).hits ≡ (node_at nodes k).hits
+    hits_below k within = elim (cases_eq k parent) [
+      | inl same ↦ ap (λ n. n.hits) (node_parent k same) ∙ ap (λ j. (node_at nodes j).hits) (sym same)
+      | inr differs ↦ ap (λ n. n.hits) (node_other k within differs)
+    ]
+
     children_parent : (k : ℕ) → k ≡ parent → (node_at next k).children ≡ insert (node_at nodes k).children at (length nodes)
     children_parent k same = ap (λ n. n.children) (node_parent k same) ∙ ap (λ j. insert (node_at nodes j).children at (length nodes)) (sym same)
 
@@ -237,6 +243,10 @@ module _ (paths : List (List PathStep)) (nodes : List LinkedNode) (parent at : �
         | inr top ↦ absurd (none-some child (sym (ap (λ n. n.last) (node_top k top)) ∙ e))
       ];
       distinct = λ i j first second e. distinct_next i j (omega (arith, sized, first)) (omega (arith, sized, second)) e;
+      few_hits = λ k within. elim (below_or_top k (length nodes) (omega (arith, sized, within))) [
+        | inl below ↦ omega (arith, hits_below k below, old.few_hits k below)
+        | inr top ↦ omega (arith, ap (λ n. n.hits) (node_top k top))
+      ];
       rises = λ k within. elim (below_or_top k (length nodes) (omega (arith, sized, within))) [
         | inl below ↦ rises_below k below
         | inr top ↦ subst (λ l. Rises path_cmp (map (path_at next_paths) l)) (sym (ap (λ n. n.children) (node_top k top))) tt

@@ -1,5 +1,5 @@
 -- The links of nodes stay a tree where a node changes in other ways.
-use Rattle.std.proofs.Common.{◌≡◌, ◌≢◌, ℕ, suc, ◌+◌, ◌<◌, List, [], ◌∷◌, ◌++◌, length, map, get_or, set, ◌⊎◌, inl, inr, refl, sym, ap, ap₂, ◌∙◌, subst, arith}
+use Rattle.std.proofs.Common.{◌≡◌, ◌≢◌, ℕ, suc, ◌+◌, ◌<◌, ◌^◌, List, [], ◌∷◌, ◌++◌, length, map, get_or, set, ◌⊎◌, inl, inr, refl, sym, ap, ap₂, ◌∙◌, subst, arith}
 use Rattle.std.specs.Prelude.{Option, Some, None}
 use Rattle.std.specs.List.{Contains}
 use Rattle.std.proofs.lemmas.Bool.{cases_eq}
@@ -19,7 +19,7 @@ pub record SameLinks (one other : LinkedNode) : Type 0 where
   pub children : one.children ≡ other.children
 
 module _ (paths : List (List PathStep)) (nodes : List LinkedNode) (key : ℕ) (node : LinkedNode) (old : LinkedBy paths nodes) (low : key < length nodes) (same : SameLinks node (node_at nodes key))
-    (last : (child : ℕ) → node.last ≡ Some child → IsChild nodes key child) where
+    (fits : node.hits < 2 ^ 53) (last : (child : ℕ) → node.last ≡ Some child → IsChild nodes key child) where
   sized : length (set nodes key node) ≡ length nodes
   sized = length-set nodes key node
 
@@ -49,6 +49,14 @@ module _ (paths : List (List PathStep)) (nodes : List LinkedNode) (key : ℕ) (n
     | inr differs ↦ old.last k child within (ap (λ n. n.last) (sym (get_or-set_other nodes key k node (fresh 0 None) differs)) ∙ e)
   ]
 
+  few_kept : (k : ℕ) → k < length nodes → (node_at (set nodes key node) k).hits < 2 ^ 53
+  few_kept k within = elim (cases_eq k key) [
+    | inl here ↦
+        let new : node_at (set nodes key node) k ≡ node = ap (node_at (set nodes key node)) here ∙ get_or-set_same nodes key node (fresh 0 None) low in
+        subst (λ n. n.hits < 2 ^ 53) (sym new) fits
+    | inr differs ↦ subst (λ n. n.hits < 2 ^ 53) (sym (get_or-set_other nodes key k node (fresh 0 None) differs)) (old.few_hits k within)
+  ]
+
   placed_kept : (k : ℕ) → IsPlaced paths nodes k → IsPlaced paths (set nodes key node) k
   placed_kept k was =
       let same_parent = (links k).parent in
@@ -69,12 +77,13 @@ module _ (paths : List (List PathStep)) (nodes : List LinkedNode) (key : ℕ) (n
     first = (links 0).step ∙ old.first;
     placed = λ k later within. placed_kept k (old.placed k later (omega (arith, sized, within)));
     children = λ k child within has.
-      child_kept k child (old.children k child (omega (arith, sized, within)) (subst (λ l. Contains l child) (links k).children has));
+        child_kept k child (old.children k child (omega (arith, sized, within)) (subst (λ l. Contains l child) (links k).children has));
     last = λ k child within e. let low' : k < length nodes = omega (arith, sized, within) in child_kept k child (last_kept k child low' e);
     distinct = λ i j first second e. old.distinct i j (omega (arith, sized, first)) (omega (arith, sized, second)) e;
+    few_hits = λ k within. few_kept k (omega (arith, sized, within));
     rises = λ k within. subst (λ l. Rises path_cmp (map (path_at paths) l)) (sym (links k).children) (old.rises k (omega (arith, sized, within)));
   }
 
-pub linked_written : (nodes : List LinkedNode) (key : ℕ) (node : LinkedNode) → Linked nodes → key < length nodes → SameLinks node (node_at nodes key) → ((child : ℕ) → node.last ≡ Some child → IsChild nodes key child) → Linked (set nodes key node)
-linked_written nodes key node old low same last =
-    subst (λ paths. LinkedBy paths (set nodes key node)) (sym (paths_of-set nodes key node same.parent same.step)) (linked_set (paths_of nodes) nodes key node old low same last)
+pub linked_written : (nodes : List LinkedNode) (key : ℕ) (node : LinkedNode) → Linked nodes → key < length nodes → SameLinks node (node_at nodes key) → node.hits < 2 ^ 53 → ((child : ℕ) → node.last ≡ Some child → IsChild nodes key child) → Linked (set nodes key node)
+linked_written nodes key node old low same fits last =
+    subst (λ paths. LinkedBy paths (set nodes key node)) (sym (paths_of-set nodes key node same.parent same.step)) (linked_set (paths_of nodes) nodes key node old low same fits last)

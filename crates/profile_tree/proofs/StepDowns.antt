@@ -94,7 +94,7 @@ module _ (nodes : List LinkedNode) (parent at : ℕ) (step : PathStep) (linked :
 
 pub last_linked : (before after : List LinkedNode) (parent key : ℕ) (step : PathStep) → Reached before after parent step key → Linked (with_last after parent key)
 last_linked before after parent key step reached =
-    linked_written after parent (record (node_at after parent) { last = Some key }) reached.linked reached.within (record { step = refl; parent = refl; children = refl })
+    linked_written after parent (record (node_at after parent) { last = Some key }) reached.linked reached.within (record { step = refl; parent = refl; children = refl }) (reached.linked.few_hits parent reached.within)
     (λ child e. let same : key ≡ child = cc in subst (IsChild after parent) same reached.child)
 
 pub last_down : (before after : List LinkedNode) (parent key : ℕ) (step : PathStep) → Reached before after parent step key → IsStepDown (grown before) (grown (with_last after parent key)) parent step key

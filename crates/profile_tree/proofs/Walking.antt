@@ -106,11 +106,11 @@ module _ (nodes : List LinkedNode) (linked : Linked nodes) where
   apart_children key (child ∷ children) steps rises =
       let one = steps child (inl refl) in (
         λ other has.
-        let two = steps other (inr has) in
-        let less : path_cmp (path child) (path other) ≡ Less = after_has path_cmp (path child) (path other) (map path children) rises.0 (has_mapped path children other has) in
-        let by_step : path_step_cmp one.0 two.0 ≡ Less = sym (slice_cmp-push path_step_cmp step_total (path key) one.0 two.0) ∙ ap₂ path_cmp (sym one.1) (sym two.1) ∙ less in
-        subst (λ p. IsApart path_step_cmp p (path other)) (sym one.1)
-        (subst (IsApart path_step_cmp (path key ++ one.0 ∷ [])) (sym two.1) (apart_siblings path_step_cmp (path key) one.0 two.0 by_step)),
+            let two = steps other (inr has) in
+            let less : path_cmp (path child) (path other) ≡ Less = after_has path_cmp (path child) (path other) (map path children) rises.0 (has_mapped path children other has) in
+            let by_step : path_step_cmp one.0 two.0 ≡ Less = sym (slice_cmp-push path_step_cmp step_total (path key) one.0 two.0) ∙ ap₂ path_cmp (sym one.1) (sym two.1) ∙ less in
+            subst (λ p. IsApart path_step_cmp p (path other)) (sym one.1)
+            (subst (IsApart path_step_cmp (path key ++ one.0 ∷ [])) (sym two.1) (apart_siblings path_step_cmp (path key) one.0 two.0 by_step)),
         apart_children key children (λ c has. steps c (inr has)) rises.1,
       )
 
@@ -177,7 +177,7 @@ module _ (nodes : List LinkedNode) (linked : Linked nodes) where
         | inr last ↦ elim last [ inl same ↦ subst (λ k. path_cmp (path k) (path next) ≡ Less) same (key_before next later) | inr none ↦ absurd none ]
       ];
       apart = apart_append path_step_cmp path (below key) rest
-      (apart_children key (below key) (λ child has. let found = child_path key child low has in (found.1, found.2)) (linked.rises key low)) walked.apart.1 across;
+          (apart_children key (below key) (λ child has. let found = child_path key child low has in (found.1, found.2)) (linked.rises key low)) walked.apart.1 across;
       covered = still_covered;
     }
 

@@ -51,6 +51,7 @@ pub record LinkedBy (paths : List (List PathStep)) (nodes : List LinkedNode) : T
   pub children : (key child : ℕ) → key < length nodes → Contains (node_at nodes key).children child → IsChild nodes key child
   pub last : (key child : ℕ) → key < length nodes → (node_at nodes key).last ≡ Some child → IsChild nodes key child
   pub distinct : (one other : ℕ) → one < length nodes → other < length nodes → path_at paths one ≡ path_at paths other → one ≡ other
+  pub few_hits : (key : ℕ) → key < length nodes → (node_at nodes key).hits < 2 ^ 53
   pub rises : (key : ℕ) → key < length nodes → Rises path_cmp (map (path_at paths) (node_at nodes key).children)
 
 abbrev pub Linked : List LinkedNode → Type 0

@@ -71,6 +71,7 @@ impl Arena {
     pub(crate) fn count(&mut self, key: usize, line: u32) -> Result<(), Memory>
         requires { key < length self.old }
         ensures ok { OnOk result (self.new ≡ slice_set self.old key (counted (node_at self.old key) line)) }
+        ensures few { OnOk result ((node_at self.old key).hits + 1 < 2 ^ 53) }
         ensures err { OnErr result (self.new ≡ self.old) }
     {
         if let Some(node) = self.slab.get_mut(key) {

@@ -1,5 +1,5 @@
 // Nodes of a linked tree.
-ghost use Rattle.std.specs.Prelude.{◌≡◌, ◌+◌, ◌≤◌, length, IfOk, OnOk, OnErr, Some};
+ghost use Rattle.std.specs.Prelude.{◌≡◌, ◌+◌, ◌<◌, ◌≤◌, ◌^◌, length, IfOk, OnOk, OnErr, Some};
 ghost use Rattle.std.specs.List.{insert};
 ghost use Rattle.profile_tree.specs.Node.{fresh, counted};
 
@@ -104,6 +104,7 @@ impl Node {
     /// unchanged.
     pub(crate) fn count(&mut self, line: u32) -> Result<(), Memory>
         ensures ok { OnOk result (self.new ≡ counted self.old line) }
+        ensures few { OnOk result (self.old.hits + 1 < 2 ^ 53) }
         ensures err { OnErr result (self.new ≡ self.old) }
     {
         let hits = one_more(self.hits)?;

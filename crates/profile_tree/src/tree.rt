@@ -1,5 +1,5 @@
 // Trees that grow tick by tick.
-ghost use Rattle.std.specs.Prelude.{◌≡◌, ℕ, ◌<◌, ◌++◌, [], ◌∷◌, List, length, map, Some, IfOk, OnOk};
+ghost use Rattle.std.specs.Prelude.{◌≡◌, ℕ, ◌<◌, ◌^◌, ◌++◌, [], ◌∷◌, List, length, map, Some, IfOk, OnOk};
 ghost use Rattle.std.specs.List.{All, AllZip, slice_get};
 ghost use Rattle.code_event.specs.DeoptReasons.{no_reasons};
 ghost use Rattle.code_event.specs.Tree.{nodes, id_of, fin_nodes};
@@ -115,6 +115,7 @@ impl Tree {
         samples: &[NodeRef],
     ) -> Result<(Sequence<FinNode>, Sequence<u32>), Memory>
         requires { All (NamesSome self.now) samples.now }
+        ensures few_hits { IfOk result (λ finished. All (λ node. node.hits < 2 ^ 53) finished.0) }
         ensures nodes { IfOk result (λ finished. (visits : List Visit) → StandsFor self.now visits
             → finished.0 ≡ fin_nodes visits no_reasons) }
         ensures samples { IfOk result (λ finished. (visits : List Visit) (paths : List (List PathStep)) → StandsFor self.now visits

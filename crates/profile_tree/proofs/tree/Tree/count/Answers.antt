@@ -16,7 +16,7 @@ invariant_of-self-2 c =
     let nodes = c.self.inside.nodes in
     let low : c.args.key < length nodes = omega (arith, c.requires, ap (λ g. length g.paths) c.self.view_is, length-paths_of nodes) in
     subst Linked (sym c.in_ok-count.ensures.ok)
-    (linked_written nodes c.args.key (counted (node_at nodes c.args.key) c.args.line) c.self.invariant low (record { step = refl; parent = refl; children = refl })
+    (linked_written nodes c.args.key (counted (node_at nodes c.args.key) c.args.line) c.self.invariant low (record { step = refl; parent = refl; children = refl }) c.in_ok-count.ensures.few
     (λ child e. c.self.invariant.last c.args.key child low e))
 
 pub returns-clause-ok : goal.returns-clause-ok

@@ -1,4 +1,4 @@
-use Rattle.std.proofs.Common.{◌≡◌, ◌≢◌, ◌<◌, ℕ, List, length, map, sym, ap, ◌∙◌, subst, arith}
+use Rattle.std.proofs.Common.{◌≡◌, ◌≢◌, ◌<◌, ◌^◌, ℕ, List, length, map, sym, ap, ◌∙◌, subst, arith}
 use Rattle.std.specs.Prelude.{slice_index}
 use Rattle.std.specs.List.{All, AllZip}
 use Rattle.code_event.specs.DeoptReasons.{no_reasons}
@@ -7,7 +7,7 @@ use Rattle.profile_tree.specs.Arena.{node_at}
 use Rattle.profile_tree.specs.Walk.{AreIds, finished_node}
 use Rattle.profile_tree.specs.Grown.{StandsFor, Names, NamesSome}
 use Rattle.profile_tree.proofs.Walking.{distinct_order, preorder_long}
-use Rattle.profile_tree.proofs.Finishing.{finished_is, samples_are, samples_within}
+use Rattle.profile_tree.proofs.Finishing.{finished_is, samples_are, samples_within, hits_within}
 use Rattle.profile_tree.proofs.tree.Tree.finished.Goals as goal
 
 pub ids-requires-clause-few : goal.ids-requires-clause-few
@@ -42,3 +42,9 @@ returns-clause-samples c visits paths stands all =
     ∙ ap (λ ids. map (λ reference. slice_index ids reference.key) c.args.samples.now) c.as_slice-4.ensures.value
     ∙ samples_are c.self.inside.nodes c.self.invariant c.in_ok-order.order.items c.in_ok-order.ensures c.in_ok-ids.ids.items (are c) visits
     (subst (λ t. StandsFor t visits) (sym c.self.view_is) stands) c.args.samples.now paths (subst (λ t. AllZip (Names t) c.args.samples.now paths) (sym c.self.view_is) all)
+
+pub returns-clause-few_hits : goal.returns-clause-few_hits
+returns-clause-few_hits c =
+    let tree = c.self.inside.nodes in
+    subst (All (λ node. node.hits < 2 ^ 53)) (sym c.in_ok-nodes.ensures)
+    (hits_within tree c.self.invariant c.as_slice-3.result.now c.as_slice-2.result.now (subst (All (λ key. key < length tree)) (sym c.as_slice-2.ensures.value) c.in_ok-order.ensures.within))
