@@ -1,23 +1,22 @@
 -- The finished nodes and samples are those of the definition.
-use Rattle.std.proofs.Common.{◌≡◌, ◌≢◌, ℕ, suc, ◌+◌, ◌-◌, ◌<◌, ◌≤◌, ◌^◌, List, [], ◌∷◌, ◌++◌, length, map, get_or, refl, sym, ap, ap₂, ◌∙◌, subst, arith, inl, inr}
-use Rattle.std.specs.Prelude.{Some, None, slice_index}
-use Rattle.std.specs.List.{All, AllZip, Contains, slice_get}
+use Rattle.std.proofs.Common.{◌≡◌, ℕ, ◌<◌, ◌^◌, List, [], ◌∷◌, ◌++◌, length, map, get_or, refl, sym, ap, ap₂, ◌∙◌, subst, arith, inl, inr}
+use Rattle.std.specs.Prelude.{None, slice_index}
+use Rattle.std.specs.List.{All, AllZip}
 use Rattle.std.proofs.lemmas.Bool.{cases_eq}
-use Rattle.std.proofs.lemmas.List.{length-map, get_or-map}
+use Rattle.std.proofs.lemmas.List.{get_or-map}
 use Rattle.std.proofs.lemmas.List.Elements.{All-weaker, All-map, Contains-get_or}
 use Rattle.std.proofs.lemmas.Option.{slice_get_within, get_or_from_slice_get}
 use Rattle.std.proofs.lemmas.Simd.{map-map}
-use Rattle.prof_base.proofs.Ordered.{Has, contains_from_has}
+use Rattle.prof_base.proofs.Ordered.{contains_from_has}
 use Rattle.code_event.specs.DeoptReasons.{no_reasons}
-use Rattle.code_event.specs.Tree.{nodes, id_of, children, node_entry, fin_node, fin_nodes}
+use Rattle.code_event.specs.Tree.{nodes, id_of, node_entry, fin_node, fin_nodes}
 use Rattle.code_event.specs.declared.path.PathStep.{PathStep}
-use Rattle.code_event.specs.declared.profile.FinNode.{FinNode}
 use Rattle.code_event.specs.declared.visit.Visit.{Visit}
 use Rattle.profile_tree.specs.Node.{LinkedNode, fresh, step_entry}
 use Rattle.profile_tree.specs.Arena.{node_at}
 use Rattle.profile_tree.specs.Linked.{path_at, paths_of, Linked}
 use Rattle.profile_tree.specs.Walk.{IsPreorder, AreIds, finished_node}
-use Rattle.profile_tree.specs.Grown.{Grown, counts, Counts, counts_of, no_counts, grown, StandsFor, Names, NamesSome}
+use Rattle.profile_tree.specs.Grown.{counts, counts_of, no_counts, grown, StandsFor, Names, NamesSome}
 use Rattle.profile_tree.specs.declared.node_ref.NodeRef.{NodeRef}
 use Rattle.profile_tree.proofs.PathsAfter.{length-paths_of}
 use Rattle.profile_tree.proofs.RisingLists.{map_alike}

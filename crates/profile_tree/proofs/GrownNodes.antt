@@ -1,6 +1,6 @@
 -- What can be seen of nodes, as they change.
-use Rattle.std.proofs.Common.{◌≡◌, ℕ, suc, ◌+◌, ◌<◌, List, [], ◌∷◌, ◌++◌, length, map, get_or, set, refl, sym, ap, ap₂, ◌∙◌, subst, arith}
-use Rattle.std.specs.Prelude.{Option, Some, None}
+use Rattle.std.proofs.Common.{◌≡◌, ℕ, ◌+◌, ◌<◌, List, [], ◌∷◌, ◌++◌, length, map, set, refl, sym, ap, ap₂, ◌∙◌, arith}
+use Rattle.std.specs.Prelude.{Some, None}
 use Rattle.std.specs.List.{insert}
 use Rattle.std.proofs.lemmas.List.{map-set, set-get_or, get_or-map, map_push}
 use Rattle.code_event.specs.declared.path.PathStep.{PathStep}
@@ -9,7 +9,6 @@ use Rattle.profile_tree.specs.Arena.{node_at, with_child, with_last}
 use Rattle.profile_tree.specs.Linked.{path_at, paths_of, Linked}
 use Rattle.profile_tree.specs.Grown.{Counts, counts, Grown, grown, no_counts, with_hit}
 use Rattle.profile_tree.proofs.PathsAfter.{paths_of-set, length-paths_of}
-use Rattle.profile_tree.proofs.LinkedChild.{paths_of-with_child}
 
 same_grown : (paths others : List (List PathStep)) (one other : List Counts) → paths ≡ others → one ≡ other → ◌≡◌ {A = Grown} (record { paths = paths; counts = one }) (record { paths = others; counts = other })
 same_grown paths others one other p c = ap₂ {C = Grown} (λ p c. record { paths = p; counts = c }) p c

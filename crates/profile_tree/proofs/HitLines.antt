@@ -1,10 +1,9 @@
 -- The lines of a node's hits with one more visit.
-use Rattle.std.proofs.Common.{◌≡◌, ◌≢◌, ℕ, suc, ◌+◌, ◌<◌, List, [], ◌∷◌, ◌++◌, map, cond, ◌&&◌, Bool, true, false, eqb, eqb-true, ltb, ltb-true, lt-ltb, ◌⊎◌, inl, inr, Ordering, Less, Equal, Greater, is_lt, is_eq, true≢false, refl, sym, ap, ap₂, ◌∙◌, subst, arith}
-use Rattle.std.specs.Prelude.{count_by}
+use Rattle.std.proofs.Common.{◌≡◌, ◌≢◌, ℕ, ◌+◌, ◌<◌, List, [], ◌∷◌, ◌++◌, map, cond, ◌&&◌, Bool, true, false, eqb, eqb-true, ltb, ltb-true, lt-ltb, inl, inr, Ordering, Less, Equal, Greater, is_lt, is_eq, refl, sym, ap, ap₂, ◌∙◌, subst, arith}
 use Rattle.std.specs.Ordering.{nat_cmp}
 use Rattle.std.specs.Cmp.{IsTotalOrder}
 use Rattle.std.proofs.lemmas.Bool.{cond_both, and_parts}
-use Rattle.std.proofs.lemmas.Cmp.{tied_itself, nat_cmp_total}
+use Rattle.std.proofs.lemmas.Cmp.{nat_cmp_total}
 use Rattle.std.proofs.lemmas.Map.Lookups.{CmpEqualImpliesEq, exact_unsigned}
 use Rattle.prof_base.specs.Ordered.{insert_sorted, Rises}
 use Rattle.prof_base.proofs.Ordered.{Has, after_has, has_put, put_has, put_keeps, put_rises}

@@ -18,3 +18,4 @@ pub mod ApartPaths
 pub mod Walking
 pub mod NodeOrder
 pub mod Finishing
+pub mod References

@@ -1,19 +1,19 @@
 -- The order of all nodes is that of the definition, and so are its ids and children.
-use Rattle.std.proofs.Common.{◌≡◌, ◌≢◌, ℕ, zero, suc, ◌+◌, ◌-◌, ◌<◌, ◌≤◌, List, [], ◌∷◌, ◌++◌, length, map, take, get_or, cond, ◌&&◌, Bool, true, false, true≢false, eq-eqb, ne_eqb, ◌⊎◌, inl, inr, is_eq, refl, sym, ap, ap₂, ◌∙◌, subst, arith}
-use Rattle.std.specs.Prelude.{Some, None, slice_index}
+use Rattle.std.proofs.Common.{◌≡◌, ℕ, zero, suc, ◌+◌, ◌-◌, ◌<◌, List, [], ◌∷◌, ◌++◌, length, map, take, get_or, cond, ◌&&◌, Bool, true, false, true≢false, eq-eqb, ne_eqb, inl, inr, is_eq, refl, sym, ap, ap₂, ◌∙◌, subst, arith}
+use Rattle.std.specs.Prelude.{slice_index}
 use Rattle.std.specs.List.{Contains, filter}
 use Rattle.std.proofs.lemmas.Bool.{cases_eq, cond_both}
 use Rattle.std.proofs.lemmas.Cmp.{tied_itself}
 use Rattle.std.proofs.lemmas.List.{length-map, length-append, get_or-map, get_or_default, take_at}
 use Rattle.std.proofs.lemmas.List.Elements.{Contains-get_or}
 use Rattle.std.proofs.lemmas.Simd.{map-map}
-use Rattle.prof_base.specs.Ordered.{Rises, place, numbers_from}
+use Rattle.prof_base.specs.Ordered.{numbers_from}
 use Rattle.prof_base.proofs.Ordered.{Has, has_from_contains, contains_from_has, places_number}
 use Rattle.code_event.specs.Tree.{path_cmp, nodes, id_of, is_below, same_path, children}
 use Rattle.code_event.specs.declared.path.PathStep.{PathStep}
 use Rattle.code_event.specs.declared.visit.Visit.{Visit}
 use Rattle.code_event.proofs.TreeIds.{path_total, nodes_rise}
-use Rattle.code_event.proofs.TreePaths.{parent_is_prefix, below_is_after}
+use Rattle.code_event.proofs.TreePaths.{parent_is_prefix}
 use Rattle.profile_tree.specs.Node.{LinkedNode}
 use Rattle.profile_tree.specs.Arena.{node_at}
 use Rattle.profile_tree.specs.Linked.{path_at, paths_of, Linked}

@@ -1,5 +1,5 @@
 -- Lists that rise in an order: what is put in at its place, and that two with the same elements are equal.
-use Rattle.std.proofs.Common.{◌≡◌, ℕ, zero, suc, ◌+◌, ◌<◌, ◌≤◌, List, [], ◌∷◌, ◌++◌, length, map, get_or, Bool, true, true≢false, cond, ◌⊎◌, inl, inr, Ordering, Less, Equal, Greater, is_lt, is_eq, is_gt, refl, sym, ap, ap₂, ◌∙◌, subst, arith}
+use Rattle.std.proofs.Common.{◌≡◌, ℕ, zero, suc, ◌+◌, ◌<◌, ◌≤◌, List, [], ◌∷◌, ◌++◌, length, map, get_or, Bool, true≢false, cond, ◌⊎◌, inl, inr, Ordering, Less, Greater, is_lt, is_eq, is_gt, refl, sym, ap, ap₂, ◌∙◌, subst, arith}
 use Rattle.std.specs.List.{insert, filter, AllByRecursion}
 use Rattle.std.specs.Ordering.{ordering_reverse}
 use Rattle.std.specs.Cmp.{IsTotalOrder}

@@ -1,20 +1,20 @@
 -- A linked tree stands for its visits as one is added.
-use Rattle.std.proofs.Common.{◌≡◌, ◌≢◌, ◌↔◌, ℕ, ◌+◌, ◌<◌, List, [], ◌∷◌, ◌++◌, length, map, get_or, set, ◌⊎◌, inl, inr, true, false, refl, sym, ap, ap₂, ◌∙◌, subst, arith}
+use Rattle.std.proofs.Common.{◌≡◌, ◌↔◌, ℕ, ◌+◌, ◌<◌, List, [], ◌∷◌, ◌++◌, length, map, get_or, set, inl, inr, true, false, sym, ap, ◌∙◌, subst, arith}
 use Rattle.std.specs.Prelude.{Some}
 use Rattle.std.specs.List.{Contains, slice_get}
 use Rattle.std.proofs.lemmas.List.{map-append, get_or_append_left, length-append, get_or-map}
-use Rattle.std.proofs.lemmas.List.Elements.{Contains-append_left, Contains-append_right, Contains-append_cases, Contains-push_cases, Contains-push}
+use Rattle.std.proofs.lemmas.List.Elements.{Contains-append_left, Contains-append_cases, Contains-push_cases, Contains-push}
 use Rattle.std.proofs.lemmas.Option.{slice_get-get_or, slice_get_within, get_or_from_slice_get}
 use Rattle.prof_base.specs.Prefix.{IsPrefix}
-use Rattle.prof_base.proofs.Ordered.{Has, has_from_contains, contains_from_has}
-use Rattle.code_event.specs.Tree.{nodes, hits, line_ticks}
+use Rattle.prof_base.proofs.Ordered.{Has, contains_from_has}
+use Rattle.code_event.specs.Tree.{nodes}
 use Rattle.code_event.specs.TreeLaws.{BeginsSome}
 use Rattle.code_event.specs.declared.path.PathStep.{PathStep}
 use Rattle.code_event.specs.declared.visit.Visit.{Visit}
 use Rattle.code_event.proofs.TreeNodes.{nodes_begin_paths, path_stands}
 use Rattle.profile_tree.specs.Node.{with_line}
 use Rattle.profile_tree.specs.Linked.{path_at}
-use Rattle.profile_tree.specs.Grown.{Grown, Counts, counts_of, no_counts, GrownBy, GrowsAlong, with_hit, StandsFor, Names}
+use Rattle.profile_tree.specs.Grown.{Grown, Counts, counts_of, no_counts, GrowsAlong, with_hit, StandsFor, Names}
 use Rattle.profile_tree.specs.declared.node_ref.NodeRef.{NodeRef}
 use Rattle.profile_tree.proofs.RisingLists.{map_alike}
 use Rattle.profile_tree.proofs.GrownNodes.{OneAlone}

@@ -1,5 +1,5 @@
 -- Steps down from a node: to a child that is there, or to one that is made.
-use Rattle.std.proofs.Common.{◌≡◌, ℕ, ◌+◌, ◌<◌, ◌^◌, List, [], ◌∷◌, ◌++◌, length, map, get_or, set, ◌⊎◌, inl, inr, refl, sym, ap, ap₂, ◌∙◌, subst, arith}
+use Rattle.std.proofs.Common.{◌≡◌, ℕ, ◌<◌, ◌^◌, List, [], ◌∷◌, ◌++◌, length, inl, inr, refl, sym, ap, ap₂, ◌∙◌, subst, arith}
 use Rattle.std.specs.Prelude.{Some}
 use Rattle.std.specs.List.{Contains, slice_get}
 use Rattle.std.proofs.lemmas.List.{append-nil, get_or_default, get_or_at, length-append}
@@ -10,7 +10,7 @@ use Rattle.profile_tree.specs.Node.{LinkedNode}
 use Rattle.profile_tree.specs.Arena.{node_at, with_child, with_last}
 use Rattle.profile_tree.specs.Linked.{path_at, paths_of, IsChild, Linked}
 use Rattle.profile_tree.specs.Children.{IsByStep, IsBetween}
-use Rattle.profile_tree.specs.Grown.{Grown, grown, no_counts, GrownBy, IsStepDown}
+use Rattle.profile_tree.specs.Grown.{Grown, grown, GrownBy, IsStepDown}
 use Rattle.profile_tree.proofs.PathsAfter.{length-paths_of}
 use Rattle.profile_tree.proofs.LinkedNodes.{linked_written}
 use Rattle.profile_tree.proofs.LinkedChild.{unseen, child_new, linked_child, paths_of-with_child}

@@ -1,5 +1,5 @@
 -- The tree of no visits.
-use Rattle.std.proofs.Common.{◌≡◌, List, [], ◌∷◌, refl}
+use Rattle.std.proofs.Common.{[], ◌∷◌, refl}
 use Rattle.std.specs.Prelude.{None}
 use Rattle.profile_tree.specs.Node.{fresh}
 use Rattle.profile_tree.specs.Grown.{StandsFor, grown}

@@ -1,15 +1,15 @@
 -- The way down along a path, step by step.
-use Rattle.std.proofs.Common.{◌≡◌, ℕ, zero, suc, ◌+◌, ◌<◌, List, [], ◌∷◌, ◌++◌, length, map, take, drop, get_or, ◌⊎◌, inl, inr, refl, sym, ap, ap₂, ◌∙◌, subst, arith}
+use Rattle.std.proofs.Common.{◌≡◌, ℕ, List, [], ◌∷◌, ◌++◌, map, take, drop, ◌⊎◌, inl, inr, refl, sym, ap, ap₂, ◌∙◌, subst}
 use Rattle.std.specs.Prelude.{Some}
 use Rattle.std.specs.List.{Contains, slice_get}
-use Rattle.std.proofs.lemmas.List.{append-nil, append_assoc, map-append, same_from_push, take_all}
-use Rattle.std.proofs.lemmas.List.Elements.{Contains-append_left, Contains-append_right, Contains-append_cases}
+use Rattle.std.proofs.lemmas.List.{append-nil, append_assoc, map-append}
+use Rattle.std.proofs.lemmas.List.Elements.{Contains-append_left, Contains-append_cases}
 use Rattle.std.proofs.lemmas.Option.{get_or_from_slice_get, slice_get_within}
 use Rattle.prof_base.specs.Prefix.{IsPrefix}
-use Rattle.prof_base.proofs.Ordered.{has_from_contains, contains_from_has}
+use Rattle.prof_base.proofs.Ordered.{has_from_contains}
 use Rattle.code_event.specs.declared.path.PathStep.{PathStep}
 use Rattle.profile_tree.specs.Linked.{path_at}
-use Rattle.profile_tree.specs.Grown.{Grown, no_counts, GrownBy, IsStepDown, GrowsAlong}
+use Rattle.profile_tree.specs.Grown.{Grown, no_counts, IsStepDown, GrowsAlong}
 use Rattle.profile_tree.proofs.StepDowns.{grown_by_none}
 
 -- a prefix of a list with one more is that list, or a prefix of it without the last

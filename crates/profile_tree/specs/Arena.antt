@@ -1,5 +1,5 @@
 -- The nodes of a slab from which nothing was taken, by key.
-use Rattle.std.specs.Prelude.{◌≡◌, ℕ, ◌<◌, List, [], ◌∷◌, ◌++◌, length, take, map, Option, Some, None, IsSome, slice_set, slice_index_or}
+use Rattle.std.specs.Prelude.{ℕ, ◌<◌, List, [], ◌∷◌, ◌++◌, length, take, map, Option, Some, None, IsSome, slice_set, slice_index_or}
 use Rattle.std.specs.List.{insert}
 use Rattle.slab.specs.Slab.{Slab, get, slab_len}
 use Rattle.code_event.specs.declared.path.PathStep.{PathStep}

@@ -1,6 +1,5 @@
 -- The search for a step among the children of a node.
 use Rattle.std.specs.Prelude.{◌≡◌, ℕ, ◌<◌, ◌≤◌, length, slice_index, Some}
-use Rattle.std.specs.List.{Contains}
 use Rattle.std.specs.declared.cmp.Ordering.TheVariants.{Less, Greater}
 use Rattle.std.specs.Prelude.{List}
 use Rattle.code_event.specs.declared.path.PathStep.{PathStep}

@@ -1,5 +1,5 @@
 -- What can be seen of a linked tree: the paths of its nodes and their hits, by key; and when it is the tree of some visits.
-use Rattle.std.specs.Prelude.{◌≡◌, ◌↔◌, ℕ, ◌+◌, ◌<◌, List, [], ◌∷◌, ◌++◌, map, Option, Some, slice_set, slice_index_or}
+use Rattle.std.specs.Prelude.{◌≡◌, ◌↔◌, ℕ, ◌+◌, List, [], ◌∷◌, ◌++◌, map, Some, slice_set, slice_index_or}
 use Rattle.std.specs.List.{Contains, slice_get}
 use Rattle.prof_base.specs.Prefix.{IsPrefix}
 use Rattle.code_event.specs.Tree.{nodes, hits, line_ticks}

@@ -1,10 +1,10 @@
 -- How the links of nodes are a tree.
-use Rattle.std.specs.Prelude.{◌≡◌, ℕ, ◌+◌, ◌<◌, ◌^◌, List, [], ◌∷◌, ◌++◌, length, map, Option, Some, None, slice_index_or}
+use Rattle.std.specs.Prelude.{◌≡◌, ℕ, ◌<◌, ◌^◌, List, [], ◌∷◌, ◌++◌, length, map, Option, Some, None, slice_index_or}
 use Rattle.std.specs.List.{Contains}
 use Rattle.prof_base.specs.Ordered.{Rises}
 use Rattle.code_event.specs.Tree.{path_cmp}
 use Rattle.code_event.specs.declared.path.PathStep.{PathStep}
-use Rattle.profile_tree.specs.Node.{LinkedNode, fresh}
+use Rattle.profile_tree.specs.Node.{LinkedNode}
 use Rattle.profile_tree.specs.Arena.{node_at}
 
 abbrev pub last_step : Option PathStep → List PathStep

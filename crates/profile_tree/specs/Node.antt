@@ -1,14 +1,12 @@
 -- Nodes of a linked tree.
-use Rattle.std.specs.Prelude.{ℕ, ◌+◌, List, [], ◌∷◌, Bool, Option, Some, None, nat_lt, cond, codes}
+use Rattle.std.specs.Prelude.{ℕ, ◌+◌, List, [], ◌∷◌, Option, Some, None, nat_lt, cond, codes}
 use Rattle.std.specs.declared.cmp.Ordering.{Ordering}
 use Rattle.std.specs.declared.cmp.Ordering.TheVariants.{Less, Equal, Greater}
 use Rattle.std.specs.Ordering.{nat_cmp}
-use Rattle.std.specs.List.{insert}
 use Rattle.code_event.specs.Tree.{path_step_cmp}
 use Rattle.code_event.specs.Symbolizer.{special}
 use Rattle.code_event.specs.declared.entry.Entry.{Entry}
 use Rattle.code_event.specs.declared.path.PathStep.{PathStep}
-use Rattle.code_event.specs.declared.profile.FinNode.{FinNode}
 use Rattle.code_event.specs.declared.profile.LineTicks.{LineTicks}
 
 -- a node: its last step, none of the root; the keys of its parent and its children, and of the child of the last visit;

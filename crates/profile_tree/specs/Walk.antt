@@ -1,11 +1,10 @@
 -- The nodes in the order of their paths, and what the finished nodes have.
-use Rattle.std.specs.Prelude.{◌≡◌, ℕ, suc, ◌+◌, ◌<◌, List, [], ◌∷◌, ◌++◌, length, map, None, slice_index}
+use Rattle.std.specs.Prelude.{◌≡◌, ℕ, ◌+◌, ◌<◌, List, length, map, None, slice_index}
 use Rattle.std.specs.List.{All, Contains}
 use Rattle.prof_base.specs.Ordered.{Rises}
 use Rattle.code_event.specs.Tree.{path_cmp}
 use Rattle.code_event.specs.declared.profile.FinNode.{FinNode}
 use Rattle.profile_tree.specs.Node.{LinkedNode, step_entry}
-use Rattle.profile_tree.specs.Arena.{node_at}
 use Rattle.profile_tree.specs.Linked.{path_at, paths_of}
 
 -- all keys, in the order of the paths

@@ -1,8 +1,6 @@
-use Rattle.std.proofs.Common.{◌≡◌, ◌≢◌, ◌<◌, ◌^◌, ℕ, List, length, map, sym, ap, ◌∙◌, subst, arith}
+use Rattle.std.proofs.Common.{◌≢◌, ◌<◌, ◌^◌, ℕ, length, map, sym, ap, ◌∙◌, subst, arith}
 use Rattle.std.specs.Prelude.{slice_index}
 use Rattle.std.specs.List.{All, AllZip}
-use Rattle.code_event.specs.DeoptReasons.{no_reasons}
-use Rattle.code_event.specs.Tree.{nodes, id_of, fin_nodes}
 use Rattle.profile_tree.specs.Arena.{node_at}
 use Rattle.profile_tree.specs.Walk.{AreIds, finished_node}
 use Rattle.profile_tree.specs.Grown.{StandsFor, Names, NamesSome}
