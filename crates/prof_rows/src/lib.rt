@@ -13,3 +13,5 @@ mod profiles;
 mod programs;
 #[cfg(test)]
 mod schedules;
+#[cfg(test)]
+mod trees;
