@@ -1,0 +1,53 @@
+-- The lines of a canonical text spell its values.
+use Rattle.std.proofs.Common.{◌≡◌, ℕ, ◌+◌, List, [], ◌∷◌, ◌++◌, true, false, not, ◌||◌, ◌==◌, Option, refl, append_assoc}
+use Rattle.std.specs.List.{AllByRecursion}
+use Rattle.std.proofs.lemmas.Bool.{and_parts, or_parts, not-true}
+use Rattle.prof_lines.specs.declared.fault.Cause.{Cause}
+use Rattle.prof_lines.specs.Lines.{lines_of, is_passed, counted_from, counted}
+use Rattle.prof_lines.specs.Spelled.{Stops, HasWords}
+use Rattle.prof_lines.specs.Canonical.{further, joined, line_of, text_of, begins_line, is_one_line, IsLine}
+use Rattle.prof_lines.specs.Values.{EachIsSpelled, Keeps, Spells}
+
+pub lines_of-line : (line rest : List ℕ) → is_one_line line ≡ true → lines_of (line ++ 10 ∷ rest) ≡ line ∷ lines_of rest
+lines_of-line [] rest h = refl
+lines_of-line (b ∷ line) rest h = let f = and_parts (not (b == 10)) (is_one_line line) h in rw (not-true (b == 10) f.0, lines_of-line line rest f.1) refl
+
+is_not_passed : (line : List ℕ) → begins_line line ≡ true → is_passed line ≡ false
+is_not_passed [] h = absurd cc
+is_not_passed (b ∷ line) h = let f = or_parts (b == 32) (b == 35) (not-true (b == 32 || b == 35) h) in rw (f.0, f.1) refl
+
+further_stops : (words : List (List ℕ)) → Stops (further words)
+further_stops [] = tt
+further_stops (word ∷ words) = refl
+
+further_has : (words : List (List ℕ)) → HasWords words (further words)
+further_has [] = (0, refl)
+further_has (word ∷ words) = (further words, record { before = 1; is = refl; stops = further_stops words }, further_has words)
+
+-- words with one space between them are the words of their line
+pub joined_has : (words : List (List ℕ)) → HasWords words (joined words)
+joined_has [] = (0, refl)
+joined_has (word ∷ words) = (further words, record { before = 0; is = refl; stops = further_stops words }, further_has words)
+
+canonical_from : {V : Type 0} (words : V → List (List ℕ)) (number : ℕ) (values : List V) → AllByRecursion (λ value. IsLine (words value)) values
+    → EachIsSpelled words values (counted_from number (lines_of (text_of words values)))
+canonical_from words number [] h = tt
+canonical_from words number (value ∷ values) h =
+    let line = joined (words value) in
+    let split : line_of (words value) ++ text_of words values ≡ line ++ 10 ∷ text_of words values = append_assoc line (10 ∷ []) (text_of words values) in
+    rw (split, lines_of-line line (text_of words values) h.0.one_line, is_not_passed line h.0.begins) (joined_has (words value), canonical_from words (number + 1) values h.1)
+
+-- the lines of the canonical text of values spell each of them
+pub canonical : {V : Type 0} (words : V → List (List ℕ)) (values : List V) → AllByRecursion (λ value. IsLine (words value)) values → EachIsSpelled words values (counted (text_of words values))
+canonical words values h = canonical_from words 1 values h
+
+-- values that fit have canonical lines, where each one that fits does
+all_lines : {V C : Type 0} (Fits : List V → V → Type 0) (words : V → List (List ℕ)) (fault : List V → V → Option (Cause C)) → ((before : List V) (value : V) → Fits before value → IsLine (words value))
+    → (before values : List V) → Keeps Fits fault before values → AllByRecursion (λ value. IsLine (words value)) values
+all_lines Fits words fault each before [] h = tt
+all_lines Fits words fault each before (value ∷ values) h = (each before value h.0, all_lines Fits words fault each (before ++ value ∷ []) values h.2)
+
+-- the lines of the canonical text of values that keep the rules spell them
+pub canonical_spells : {V C : Type 0} (Fits : List V → V → Type 0) (words : V → List (List ℕ)) (fault : List V → V → Option (Cause C)) → ((before : List V) (value : V) → Fits before value → IsLine (words value))
+    → (values : List V) → Keeps Fits fault [] values → Spells Fits words fault [] values (counted (text_of words values))
+canonical_spells Fits words fault each values h = (h, canonical words values (all_lines Fits words fault each [] values h))

@@ -1,0 +1,15 @@
+pub mod Canonical
+pub mod CanonicalLines
+pub mod EndForms
+pub mod Ends
+pub mod FirstLine
+pub mod Folds
+pub mod Labels
+pub mod Numbers
+pub mod Numerals
+pub mod PlainWords
+pub mod Places
+pub mod QuotedForms
+pub mod Steps
+pub mod Unquoting
+pub mod Values

@@ -1,0 +1,9 @@
+pub mod Answers
+pub mod Canonical
+pub mod Folds
+pub mod Forms
+pub mod Lines
+pub mod Quoted
+pub mod Spelled
+pub mod Values
+pub mod Words
