@@ -3,11 +3,15 @@
 #![tactic(auto)]
 
 pub mod examples;
+mod item_form;
+mod item_line;
+mod items;
 pub mod laws;
 mod limits;
 mod refused;
 mod schedule;
 
+pub use items::ItemList;
 pub use limits::{DEFAULT_RING, MAX_BUDGET, MAX_ENTRIES, MAX_PORT, MAX_RING, MIN_ENTRIES};
 pub use refused::{LineCause, ReadRefused};
 pub use schedule::{EndCause, Schedule, ScheduleEntry, What};
