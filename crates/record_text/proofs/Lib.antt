@@ -1,2 +1,5 @@
 pub mod Addresses
+pub mod EventForms
+pub mod ItemForms
+pub mod ItemWords
 pub mod Sources

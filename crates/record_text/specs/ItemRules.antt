@@ -20,21 +20,21 @@ use Rattle.record_text.specs.declared.item_line.ItemLine.TheVariants as line
 use Rattle.record_text.specs.declared.item_line.TextLine.{TextLine}
 use Rattle.record_text.specs.declared.item_line.TextLine.TheVariants.{Head, Body}
 
--- a code object whose lines are being read: its start, and its units and slots so far
-pub record OpenCode : Type 0 where
+-- a code object that was begun: its start, and its units and slots so far
+pub record BegunCode : Type 0 where
   pub start : ℕ
   pub units : List CodeUnit
   pub slots : List Slot
 
--- What lines say so far: the latest time, the sessions that were started and those that run, whether there was a finish, and the code object that is being read, if any.
+-- What lines say so far: the latest time, the sessions that were started and those that run, whether there was a finish, and the code object that was begun, if any.
 pub record Course : Type 0 where
   pub list : ListSoFar
   pub finished : Bool
-  pub open : Option OpenCode
+  pub begun : Option BegunCode
 
 -- before the first line
 abbrev pub no_course : Course
-no_course = record { list = record { time = 0; started = []; running = [] }; finished = false; open = None }
+no_course = record { list = record { time = 0; started = []; running = [] }; finished = false; begun = None }
 
 abbrev pub list_after_event : ListSoFar → LineEvent → ListSoFar
 list_after_event list (Start session port interval mode max time) = record { time = time; started = session.0 ∷ list.started; running = session.0 ∷ list.running }
@@ -69,27 +69,27 @@ is_finish (line.Slot slot) = false
 is_finish (line.Event event) = is_finish_event event
 is_finish (line.Tick tick) = false
 
--- the code object that is being read, with one more unit
-abbrev pub with_unit : OpenCode → CodeUnit → OpenCode
+-- the code object that was begun, with one more unit
+abbrev pub with_unit : BegunCode → CodeUnit → BegunCode
 with_unit code u = record { start = code.start; units = code.units ++ u ∷ []; slots = code.slots }
 
 -- the same with one more slot
-abbrev pub with_slot : OpenCode → Slot → OpenCode
+abbrev pub with_slot : BegunCode → Slot → BegunCode
 with_slot code slot = record { start = code.start; units = code.units; slots = code.slots ++ slot ∷ [] }
 
--- the code object that is being read after a line; a unit and a slot go on with it, and every other line ends it
-abbrev pub open_after : Option OpenCode → ItemLine → Option OpenCode
-open_after open (line.Create start) = Some (record { start = start; units = []; slots = [] })
-open_after None (line.Unit u) = None
-open_after (Some code) (line.Unit u) = Some (with_unit code u)
-open_after None (line.Slot slot) = None
-open_after (Some code) (line.Slot slot) = Some (with_slot code slot)
-open_after open (line.Event event) = None
-open_after open (line.Tick tick) = None
+-- the code object that was begun after a line; a unit and a slot go on with it, and every other line ends it
+abbrev pub begun_after : Option BegunCode → ItemLine → Option BegunCode
+begun_after begun (line.Create start) = Some (record { start = start; units = []; slots = [] })
+begun_after None (line.Unit u) = None
+begun_after (Some code) (line.Unit u) = Some (with_unit code u)
+begun_after None (line.Slot slot) = None
+begun_after (Some code) (line.Slot slot) = Some (with_slot code slot)
+begun_after begun (line.Event event) = None
+begun_after begun (line.Tick tick) = None
 
 -- what lines say with one more
 abbrev pub item_after : Course → ItemLine → Course
-item_after course line = record { list = list_after course.list line; finished = course.finished || is_finish line; open = open_after course.open line }
+item_after course line = record { list = list_after course.list line; finished = course.finished || is_finish line; begun = begun_after course.begun line }
 
 abbrev pub course_after : Course → TextLine → Course
 course_after course (Head base) = course
@@ -107,28 +107,28 @@ abbrev pub is_none : {X : Type 0} → List X → Bool
 is_none xs = length xs == 0
 
 -- it has a unit and a slot
-abbrev pub is_whole : OpenCode → Bool
+abbrev pub is_whole : BegunCode → Bool
 is_whole code = not (is_none code.units) && not (is_none code.slots)
 
--- the code object that is being read, if any, may end here
-abbrev pub may_end : Option OpenCode → Bool
+-- the code object that was begun, if any, may end here
+abbrev pub may_end : Option BegunCode → Bool
 may_end None = true
 may_end (Some code) = is_whole code
 
 -- a unit comes next that is the first of its code object
-abbrev pub is_first : Option OpenCode → Bool
+abbrev pub is_first : Option BegunCode → Bool
 is_first None = false
 is_first (Some code) = is_none code.units
 
 -- units follow their create, and slots follow the units; every other line comes when the code object before it may end
-abbrev pub is_in_place : Option OpenCode → ItemLine → Bool
+abbrev pub is_in_place : Option BegunCode → ItemLine → Bool
 is_in_place None (line.Unit u) = false
 is_in_place (Some code) (line.Unit u) = is_none code.slots
 is_in_place None (line.Slot slot) = false
 is_in_place (Some code) (line.Slot slot) = not (is_none code.units)
-is_in_place open (line.Create start) = may_end open
-is_in_place open (line.Event event) = may_end open
-is_in_place open (line.Tick tick) = may_end open
+is_in_place begun (line.Create start) = may_end begun
+is_in_place begun (line.Event event) = may_end begun
+is_in_place begun (line.Tick tick) = may_end begun
 
 abbrev pub event_time : LineEvent → Option ℕ
 event_time (Start session port interval mode max time) = Some time
@@ -153,7 +153,7 @@ is_earlier latest time = option_map_or (λ t. nat_lt t latest) time false
 
 -- the rule Order: nothing follows a finish, each line is in its place, and times do not fall
 abbrev pub breaks_order : Course → ItemLine → Bool
-breaks_order course line = course.finished || not (is_in_place course.open line) || is_earlier course.list.time (item_time line)
+breaks_order course line = course.finished || not (is_in_place course.begun line) || is_earlier course.list.time (item_time line)
 
 -- it is one of these numbers
 abbrev pub is_among : List ℕ → ℕ → Bool
@@ -177,7 +177,7 @@ breaks_session list (line.Event event) = event_breaks_session list event
 breaks_session list (line.Tick tick) = false
 
 -- the unit above, if any, does not come before
-abbrev pub is_late_parent : OpenCode → CodeUnit → Bool
+abbrev pub is_late_parent : BegunCode → CodeUnit → Bool
 is_late_parent code u = option_map_or (λ site. nat_le (length code.units) site.unit) u.parent false
 
 -- how many units are above the unit with this number, as far as one more than there may be
@@ -185,17 +185,17 @@ abbrev pub units_above : List CodeUnit → ℕ → ℕ
 units_above units number = length (sites_above (suc MAX_ABOVE) units number)
 
 -- there is no room for the unit, its parent does not come before it, or there are too many units above it
-abbrev pub unit_breaks_limit : OpenCode → CodeUnit → Bool
+abbrev pub unit_breaks_limit : BegunCode → CodeUnit → Bool
 unit_breaks_limit code u =
     nat_le MAX_UNITS (length code.units) || is_late_parent code u || nat_lt MAX_ABOVE (units_above (code.units ++ u ∷ []) (length code.units))
 
 -- there is no room for the slot, its unit is not there, or the code would end past the last address
-abbrev pub slot_breaks_limit : OpenCode → Slot → Bool
+abbrev pub slot_breaks_limit : BegunCode → Slot → Bool
 slot_breaks_limit code slot =
     nat_le MAX_SLOTS (length code.slots) || nat_le (length code.units) slot.unit || nat_lt (2 ^ 32) (code.start + SLOT_SIZE * (length code.slots + 1))
 
 -- the rule Limit
-abbrev pub breaks_limit : Option OpenCode → ItemLine → Bool
+abbrev pub breaks_limit : Option BegunCode → ItemLine → Bool
 breaks_limit None line = false
 breaks_limit (Some code) (line.Unit u) = unit_breaks_limit code u
 breaks_limit (Some code) (line.Slot slot) = slot_breaks_limit code slot
@@ -208,7 +208,7 @@ abbrev pub item_fault : Course → ItemLine → Option (Cause Rule)
 item_fault course line =
     if breaks_order course line then Some (Own rule.Order)
     else if breaks_session course.list line then Some (Own rule.Session)
-    else if breaks_limit course.open line then Some (Own rule.Limit)
+    else if breaks_limit course.begun line then Some (Own rule.Limit)
     else None
 
 -- the first rule that a line breaks after these

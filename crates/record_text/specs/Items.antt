@@ -30,10 +30,10 @@ use Rattle.record_text.specs.declared.item_line.TextLine.TheVariants.{Head, Body
 use Rattle.record_text.specs.declared.items.ItemList.{ItemList}
 use Rattle.record_text.specs.ItemLine.{item_words, IsItemLine}
 use Rattle.record_text.specs.ItemForms.{head_at, item_at}
-use Rattle.record_text.specs.ItemRules.{OpenCode, course_of, is_first, may_end, fault_after}
+use Rattle.record_text.specs.ItemRules.{BegunCode, course_of, is_first, may_end, fault_after}
 
 -- the lines of a code object
-abbrev pub code_lines : OpenCode → List ItemLine
+abbrev pub code_lines : BegunCode → List ItemLine
 code_lines code = line.Create code.start ∷ (map (λ u. line.Unit u) code.units ++ map (λ slot. line.Slot slot) code.slots)
 
 -- the lines of an event
@@ -73,12 +73,12 @@ abbrev pub Fits : List TextLine → TextLine → Type 0
 Fits [] (Head base) = InRange 1 MAX_INTERVAL base
 Fits [] (Body line) = ⊥
 Fits (first ∷ lines) (Head base) = ⊥
-Fits (first ∷ lines) (Body line) = IsItemLine (is_first (course_of (first ∷ lines)).open) line
+Fits (first ∷ lines) (Body line) = IsItemLine (is_first (course_of (first ∷ lines)).begun) line
 
 -- what is read of a line after these
 abbrev pub line_after : List TextLine → List ℕ → Result TextLine (Cause Rule)
 line_after [] bytes = head_at bytes >>= λ base. Ok (Head base)
-line_after (first ∷ lines) bytes = item_at (is_first (course_of (first ∷ lines)).open) bytes >>= λ line. Ok (Body line)
+line_after (first ∷ lines) bytes = item_at (is_first (course_of (first ∷ lines)).begun) bytes >>= λ line. Ok (Body line)
 
 -- the lines that were read, with one more
 abbrev pub items_next : List TextLine → List ℕ → Result (List TextLine) (Cause Rule)
@@ -88,7 +88,7 @@ items_next before bytes = next_value line_after fault_after before bytes
 -- the end of a text: there is a first line, and the last code object may end
 abbrev pub items_end : List TextLine → Result (List TextLine) (Cause Rule)
 items_end [] = Err causes.Word
-items_end (first ∷ lines) = if may_end (course_of (first ∷ lines)).open then Ok (first ∷ lines) else Err (causes.Own rule.Order)
+items_end (first ∷ lines) = if may_end (course_of (first ∷ lines)).begun then Ok (first ∷ lines) else Err (causes.Own rule.Order)
 
 -- the lines that are read of a text, or its first fault
 abbrev pub lines_read : List ℕ → Result (List TextLine) (ℕ × Cause Rule)
@@ -97,7 +97,7 @@ lines_read text = read_text items_next items_end [] text
 -- The numbers and texts of these lines are in their ranges, each line keeps the rules after those before it, and the last code object may end.
 pub record KeepRules (lines : List TextLine) : Type 0 where
   pub each : Keeps Fits fault_after [] lines
-  pub ended : may_end (course_of lines).open ≡ true
+  pub ended : may_end (course_of lines).begun ≡ true
 
 -- the list has its stamps, and its lines keep the ranges and the rules
 pub record IsItemList (list : ItemList) : Type 0 where
