@@ -1,4 +1,5 @@
 pub mod Examples
+pub mod ItemDraft
 pub mod ItemForms
 pub mod ItemLine
 pub mod ItemRules

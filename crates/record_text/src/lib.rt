@@ -2,12 +2,15 @@
 //! it determines the whole run.
 #![tactic(auto)]
 
+mod begun;
 pub mod examples;
+mod gathered;
 mod item_form;
 mod item_line;
 mod items;
 pub mod laws;
 mod limits;
+mod progress;
 mod refused;
 mod schedule;
 
