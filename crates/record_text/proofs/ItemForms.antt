@@ -1,7 +1,8 @@
 -- The forms of the lines of item lists: what is read is spelled so, and what is spelled so is read.
-use Rattle.std.proofs.Common.{◌≡◌, ℕ, List, [], ◌∷◌, map, Bool, true, false, Option, Some, None, Ok, refl, sym, ◌∙◌, subst, codes, decimal, inl, inr, lit<}
+use Rattle.std.proofs.Common.{◌≡◌, ℕ, List, [], ◌∷◌, map, Bool, true, false, Option, Some, None, Result, Ok, Err, IfOk, refl, sym, ◌∙◌, subst, codes, decimal, inl, inr, lit<}
 use Rattle.prof_base.specs.declared.interval.TheConstants.{MAX_INTERVAL}
-use Rattle.prof_lines.specs.Answers.{Front, ◌>>=◌}
+use Rattle.prof_lines.specs.declared.fault.LineFault.{LineFault}
+use Rattle.prof_lines.specs.Answers.{Front, Gives, ◌>>=◌}
 use Rattle.prof_lines.specs.Words.{InRange, word_at, numbers_at}
 use Rattle.prof_lines.specs.Spelled.{BeginsWith, HasWords, IsWord}
 use Rattle.prof_lines.specs.Forms.{IsForm}
@@ -266,6 +267,11 @@ item_takes first bytes value h =
     let t = named_takes first a.0.0 a.0.1 value a.3 in
     let begins : BeginsWith (item_name value) a.0.1 bytes = subst (λ (z : List ℕ). BeginsWith z a.0.1 bytes) (sym t.1) a.2 in
     (t.0, (a.0.1, begins, t.2))
+
+-- a line that was read is in its ranges
+pub item_fits : (first : Bool) (text bytes : List ℕ) (result : Result ItemLine (LineFault Rule)) → Gives (λ line. line) result (item_of first text bytes) → IfOk result (λ line. IsItemLine first line)
+item_fits first text bytes (Ok line) h = (named_takes first text bytes line h).0
+item_fits first text bytes (Err fault) h = tt
 
 item_again : (first : Bool) (bytes : List ℕ) (value : ItemLine) → IsItemLine first value → HasWords (item_words (Body value)) bytes → item_at first bytes ≡ Ok value
 unfolding item_at

@@ -1,5 +1,7 @@
 pub mod Above
 pub mod Addresses
+pub mod Courses
+pub mod Drafts
 pub mod EventForms
 pub mod Gathering
 pub mod ItemForms

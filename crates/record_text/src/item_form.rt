@@ -4,7 +4,7 @@ ghost use Rattle.prof_base.specs.declared.interval.TheConstants.{MAX_INTERVAL};
 ghost use Rattle.prof_lines.specs.Answers.{Gives};
 ghost use Rattle.prof_lines.specs.Words.{number_at, numbers_at};
 ghost use Rattle.code_event.specs.declared.tick.TheConstants.Frames.{MAX_LEN};
-ghost use Rattle.record_text.specs.ItemLine.{MAX_ADDRESS};
+ghost use Rattle.record_text.specs.ItemLine.{MAX_ADDRESS, IsItemLine};
 ghost use Rattle.record_text.specs.ItemForms.{mode_of, state_of, flag_of, bound_of, numbered, only_of, address_at, line_at, index_at, session_at, time_at};
 ghost use Rattle.record_text.specs.ItemForms.{head_at, create_at, entry_at, no_parent_at, site_at, parent_at, unit_at, slot_at, move_at, reason_at, no_opt_at, deopt_at, delete_at, start_at, stop_at, finish_at, event_of, tick_at, item_of, item_at};
 
@@ -393,7 +393,8 @@ fn item_of(
 /// A line after the first. `first` says whether a unit is the first of its code object.
 #[tactic(auto, unfolding(crate::specs::ItemForms::item_at))]
 pub(crate) fn item(alloc: Global, first: bool, bytes: &[u8]) -> Result<ItemLine, LineFault<Rule>>
-    ensures { Gives (λ line. line) result (item_at first bytes.now) }
+    ensures line { Gives (λ line. line) result (item_at first bytes.now) }
+    ensures fits { IfOk result (λ line. IsItemLine first line) }
 {
     let (word, rest) = word(bytes)?;
     item_of(alloc, first, word, rest)

@@ -3,6 +3,7 @@
 #![tactic(auto)]
 
 mod begun;
+mod draft;
 pub mod examples;
 mod gathered;
 mod item_form;
