@@ -3,8 +3,10 @@ pub mod Addresses
 pub mod Courses
 pub mod Drafts
 pub mod EventForms
+pub mod Flattening
 pub mod Gathering
 pub mod ItemForms
+pub mod ItemTexts
 pub mod ItemWords
 pub mod Sources
 pub mod StartedSessions

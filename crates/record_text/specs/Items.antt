@@ -6,7 +6,7 @@ use Rattle.prof_lines.specs.declared.fault.Cause.TheVariants as causes
 use Rattle.prof_lines.specs.Answers.{◌>>=◌}
 use Rattle.prof_lines.specs.Lines.{counted}
 use Rattle.prof_lines.specs.Words.{InRange}
-use Rattle.prof_lines.specs.Folds.{read_text, IsTextFault}
+use Rattle.prof_lines.specs.Folds.{placed, read_lines, read_text, IsTextFault}
 use Rattle.prof_lines.specs.Canonical.{text_of}
 use Rattle.prof_lines.specs.Values.{next_value, Keeps, EachIsSpelled}
 use Rattle.code_event.specs.ItemList.{IsStamped}
@@ -93,6 +93,10 @@ items_end (first ∷ lines) = if may_end (course_of (first ∷ lines)).begun the
 -- the lines that are read of a text, or its first fault
 abbrev pub lines_read : List ℕ → Result (List TextLine) (ℕ × Cause Rule)
 lines_read text = read_text items_next items_end [] text
+
+-- what is read of the lines that are left, after these, where the number after the last line is this one
+abbrev pub rest_of : List TextLine → List (ℕ × List ℕ) → ℕ → Result (List TextLine) (ℕ × Cause Rule)
+rest_of before lines after = read_lines items_next before lines >>= λ state. placed after (items_end state)
 
 -- The numbers and texts of these lines are in their ranges, each line keeps the rules after those before it, and the last code object may end.
 pub record KeepRules (lines : List TextLine) : Type 0 where

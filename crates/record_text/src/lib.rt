@@ -15,7 +15,7 @@ mod progress;
 mod refused;
 mod schedule;
 
-pub use items::ItemList;
+pub use items::{ItemList, read_items};
 pub use limits::{DEFAULT_RING, MAX_BUDGET, MAX_ENTRIES, MAX_PORT, MAX_RING, MIN_ENTRIES};
 pub use refused::{LineCause, ReadRefused};
 pub use schedule::{EndCause, Schedule, ScheduleEntry, What};
