@@ -16,8 +16,10 @@ use Rattle.record_text.specs.declared.item_line.TextLine.{TextLine}
 use Rattle.record_text.specs.declared.items.ItemList.{ItemList}
 use Rattle.record_text.specs.ItemLine.{item_words}
 use Rattle.record_text.specs.ItemRules.{course_of, may_end, fault_after}
-use Rattle.record_text.specs.Items.{Fits, line_after, items_next, items_end, lines_read, item_lines, KeepRules, IsItemList, Spells}
+use Rattle.record_text.specs.Items.{Fits, line_after, items_next, items_end, lines_read, item_lines, items_text, KeepRules, IsItemList, Spells}
 use Rattle.record_text.proofs.ItemForms.{line_form}
+use Rattle.record_text.specs.ItemLaws.{TextsSpellOneList, CanonicalTextsStay, ListsHaveTheirTexts}
+use Rattle.record_text.proofs.CanonicalItems.{canonical_items}
 use Rattle.record_text.proofs.Flattening.{lists_are_one}
 
 end_keeps : (lines whole : List TextLine) → items_end lines ≡ Ok whole → (lines ≡ whole) × (may_end (course_of lines).begun ≡ true)
@@ -49,3 +51,15 @@ never_refused text place list h is s = let again : lines_read text ≡ Ok (item_
 
 pub refused_first : (text : List ℕ) (place : ℕ × Cause Rule) → lines_read text ≡ Err place → IsTextFault items_next items_end [] text place
 refused_first text place h = text_fault items_next items_end [] text place h
+
+-- a text spells one list at most
+pub texts_spell_one : TextsSpellOneList
+texts_spell_one text one other is_one is_other spells_one spells_other =
+    lists_are_one one other is_one.stamped is_other.stamped (ok_same _ _ (sym (lines_again text one is_one.rules spells_one) ∙ lines_again text other is_other.rules spells_other))
+
+pub canonical_texts_stay : CanonicalTextsStay
+canonical_texts_stay list read is_list is_read s = ap items_text (texts_spell_one (items_text list) read list is_read is_list s (canonical_items list is_list))
+
+pub lists_have_their_texts : ListsHaveTheirTexts
+lists_have_their_texts one other is_one is_other same =
+    texts_spell_one (items_text one) one other is_one is_other (canonical_items one is_one) (subst (λ (z : List ℕ). Spells z other) (sym same) (canonical_items other is_other))

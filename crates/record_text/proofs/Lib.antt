@@ -1,5 +1,6 @@
 pub mod Above
 pub mod Addresses
+pub mod CanonicalItems
 pub mod Courses
 pub mod Drafts
 pub mod EventForms
@@ -8,5 +9,7 @@ pub mod Gathering
 pub mod ItemForms
 pub mod ItemTexts
 pub mod ItemWords
+pub mod LegalItems
 pub mod Sources
+pub mod Spelling
 pub mod StartedSessions
