@@ -1,15 +1,1 @@
-pub mod Above
-pub mod Addresses
-pub mod CanonicalItems
-pub mod Courses
-pub mod Drafts
-pub mod EventForms
-pub mod Flattening
-pub mod Gathering
-pub mod ItemForms
-pub mod ItemTexts
-pub mod ItemWords
-pub mod LegalItems
 pub mod Sources
-pub mod Spelling
-pub mod StartedSessions

@@ -1,11 +1,4 @@
 pub mod Examples
-pub mod ItemDraft
-pub mod ItemForms
-pub mod ItemLaws
-pub mod ItemLine
-pub mod ItemRules
-pub mod ItemSpelling
-pub mod Items
 pub mod Schedule
 pub mod ScheduleParts
 pub mod Source

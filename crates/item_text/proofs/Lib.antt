@@ -1,0 +1,14 @@
+pub mod Above
+pub mod Addresses
+pub mod CanonicalItems
+pub mod Courses
+pub mod Drafts
+pub mod EventForms
+pub mod Flattening
+pub mod Gathering
+pub mod ItemForms
+pub mod ItemTexts
+pub mod ItemWords
+pub mod LegalItems
+pub mod Spelling
+pub mod StartedSessions

@@ -1,6 +1,0 @@
-use Rattle.std.proofs.Common.{◌≡◌, ◌++◌, take}
-use Rattle.record_text.specs.ItemSpelling.{slots_text}
-use Rattle.record_text.proofs.item_writing.put_slots.Given as goal
-
-abbrev pub invariant-loop-slot : goal.invariant-loop-slot
-invariant-loop-slot l = l.out.items ≡ l.fn.out.items ++ slots_text (take l.slot-index l.slots)

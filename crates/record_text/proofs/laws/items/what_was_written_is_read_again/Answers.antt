@@ -1,6 +1,0 @@
-use Rattle.record_text.proofs.CanonicalItems.{canonical_items}
-use Rattle.record_text.proofs.ItemTexts.{texts_spell_one, lists_have_their_texts}
-use Rattle.record_text.proofs.laws.items.what_was_written_is_read_again.Goals as goal
-
-pub returns : goal.returns
-returns c = record { spell = canonical_items; one = texts_spell_one; texts = lists_have_their_texts }

@@ -1,6 +1,0 @@
-use Rattle.std.proofs.Common.{◌≡◌, take}
-use Rattle.code_event.specs.ItemList.{without}
-use Rattle.record_text.proofs.progress.without.Given as goal
-
-abbrev pub invariant-loop-number : goal.invariant-loop-number
-invariant-loop-number l = l.others.items ≡ without l.session.0 (take l.number-index l.numbers)
