@@ -1,0 +1,4 @@
+pub mod Appends
+pub mod Converted
+pub mod Escapes
+pub mod Joined

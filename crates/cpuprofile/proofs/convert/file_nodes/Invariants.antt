@@ -1,0 +1,6 @@
+use Rattle.std.proofs.Common.{◌≡◌, take}
+use Rattle.cpuprofile.specs.Converted.{file_nodes}
+use Rattle.cpuprofile.proofs.convert.file_nodes.Given as goal
+
+abbrev pub invariant-loop-at : goal.invariant-loop-at
+invariant-loop-at l = l.made.items ≡ file_nodes 1 (take l.at l.nodes)
