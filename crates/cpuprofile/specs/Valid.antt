@@ -44,11 +44,11 @@ abbrev pub children_of : List FileNode → ℕ → List ℕ
 children_of [] id = []
 children_of (node ∷ nodes) id = if node.id == id then node.children else children_of nodes id
 
--- the id of the node at which a walk ends that begins at the node with this id; none where the walk leaves the nodes
--- each step of a walk is the place of a child among the children of the node before, from 0
+-- the id of the node at which a walk along children ends that begins at the node with the id first; none where it leaves the nodes
+-- A walk is the list of its steps, the last one first. A step is the place of a child among the children of the node before it, from 0.
 abbrev pub walk_end : List FileNode → ℕ → List ℕ → Option ℕ
-walk_end nodes id [] = Some id
-walk_end nodes id (place ∷ places) = option_and_then (λ child. walk_end nodes child places) (slice_get (children_of nodes id) place)
+walk_end nodes first [] = Some first
+walk_end nodes first (place ∷ before) = option_and_then (λ id. slice_get (children_of nodes id) place) (walk_end nodes first before)
 
 -- exactly one walk from the first of these two ends at the second
 pub record IsReachedOnce (nodes : List FileNode) (first id : ℕ) : Type 0 where

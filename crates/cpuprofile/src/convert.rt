@@ -2,7 +2,9 @@
 ghost use Rattle.std.specs.Prelude.{◌≡◌, ◌≤◌, ◌^◌, ◌<◌, length, map, decimal, IfOk, Some};
 ghost use Rattle.code_event.specs.FileText.{file_text};
 ghost use Rattle.cpuprofile.specs.Converted.{less_one, some_reason, file_ticks, file_node, file_nodes, file_delta, file_profile};
-ghost use Rattle.cpuprofile.specs.Given.{DeltasFit};
+ghost use Rattle.cpuprofile.specs.Given.{DeltasFit, HasSmallNumbers, IsGiven};
+ghost use Rattle.cpuprofile.specs.Valid.{IsExact, IsLineNumber, IsValid};
+ghost use Rattle.std.specs.List.{AllByRecursion};
 ghost use Rattle.cpuprofile.specs.ProfileText.{profile_text};
 
 use crate::file_text::FileText;
@@ -14,7 +16,8 @@ use std::alloc::Global;
 
 // Counts from 0 what counts from 1; -1 for 0.
 fn less_one(number: u32) -> i64
-    ensures { result ≡ less_one number }
+    ensures exact { result ≡ less_one number }
+    ensures in_range { IsLineNumber result }
 {
     if number == 0 {
         -1
@@ -46,7 +49,8 @@ fn file_reason(alloc: Global, reason: &Option<Text>) -> Result<Option<FileText>,
 }
 
 fn wide(alloc: Global, numbers: &[u32]) -> Result<Sequence<u64>, Memory>
-    ensures { IfOk result (λ made. made ≡ numbers.now) }
+    ensures exact { IfOk result (λ made. made ≡ numbers.now) }
+    ensures small { IfOk result (λ made. AllByRecursion (λ number. number < 2 ^ 32) made) }
 {
     let wide = numbers
         .iter()
@@ -56,7 +60,8 @@ fn wide(alloc: Global, numbers: &[u32]) -> Result<Sequence<u64>, Memory>
 }
 
 fn file_ticks(alloc: Global, lines: &[LineTicks]) -> Result<Sequence<FileTicks>, Memory>
-    ensures { IfOk result (λ made. made ≡ map file_ticks lines.now) }
+    ensures exact { IfOk result (λ made. made ≡ map file_ticks lines.now) }
+    ensures small { IfOk result (λ made. AllByRecursion (λ at. IsExact at.line) made) }
 {
     let mut made = Vec::with_capacity(alloc, lines.len())?;
     for line in lines {
@@ -70,6 +75,7 @@ fn file_ticks(alloc: Global, lines: &[LineTicks]) -> Result<Sequence<FileTicks>,
 
 fn file_node(alloc: Global, id: u64, node: &FinNode) -> Result<FileNode, Memory>
     ensures exact { IfOk result (λ made. made ≡ file_node id node.now) }
+    ensures small { IfOk result HasSmallNumbers }
 {
     Ok(FileNode {
         id,
@@ -87,6 +93,7 @@ fn file_node(alloc: Global, id: u64, node: &FinNode) -> Result<FileNode, Memory>
 
 fn file_nodes(alloc: Global, nodes: &[FinNode]) -> Result<Sequence<FileNode>, Memory>
     ensures exact { IfOk result (λ made. made ≡ file_nodes 1 nodes.now) }
+    ensures small { IfOk result (λ made. AllByRecursion HasSmallNumbers made) }
 {
     let mut made = Vec::with_capacity(alloc, nodes.len())?;
     for (at, node) in nodes.iter().enumerate() {
@@ -116,6 +123,7 @@ fn file_deltas(alloc: Global, deltas: &[u64]) -> Result<Sequence<i64>, Memory>
 pub fn profile_of(alloc: Global, finished: &Finished) -> Result<Profile, Memory>
     ensures exact { IfOk result (λ profile. profile ≡ file_profile finished.now) }
     ensures text { IfOk result (λ profile. DeltasFit finished.now → profile_text profile ≡ file_text finished.now) }
+    ensures valid { IfOk result (λ profile. IsGiven finished.now → IsValid profile) }
 {
     Ok(Profile {
         nodes: file_nodes(alloc, finished.nodes.as_slice())?,
