@@ -2,7 +2,7 @@
 use Rattle.std.proofs.Common.{◌≡◌, ℕ, ◌≤◌, List, [], ◌∷◌, ◌++◌, length, map, codes, Some, refl, arith}
 use Rattle.std.proofs.lemmas.List.{append_assoc}
 use Rattle.json.specs.Print.{quoted}
-use Rattle.code_event.specs.FileText.{list_text, reason_text, children_text}
+use Rattle.code_event.specs.FileText.{list_text, reason_text}
 use Rattle.cpuprofile.specs.ProfileText.{ticks_text, all_ticks_text}
 use Rattle.cpuprofile.specs.declared.profile.FileTicks.{FileTicks}
 

@@ -7,3 +7,4 @@ pub mod Once
 pub mod Trees
 pub mod Validity
 pub mod Walks
+pub mod SeenGives

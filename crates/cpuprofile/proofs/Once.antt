@@ -1,5 +1,5 @@
 -- Lists in which each number stands at most once.
-use Rattle.std.proofs.Common.{◌≡◌, ◌≢◌, ℕ, zero, suc, ◌+◌, ◌<◌, ◌≤◌, List, [], ◌∷◌, ◌++◌, ◌⊎◌, inl, inr, length, cond, Bool, true, false, Option, Some, None, eqb, eqb-true, eq-eqb, ne_eqb, refl, sym, ap, subst, arith}
+use Rattle.std.proofs.Common.{◌≡◌, ◌≢◌, ℕ, zero, suc, ◌+◌, ◌<◌, ◌≤◌, List, [], ◌∷◌, ◌++◌, ◌⊎◌, inl, inr, cond, Bool, true, false, Some, eqb, eq-eqb, ne_eqb, refl, sym, ap, arith}
 use Rattle.std.specs.List.{AllByRecursion, slice_get, sum_by}
 use Rattle.std.specs.List.Sorted.{IsPermutation}
 use Rattle.std.proofs.lemmas.List.Sums.{sum_by-cons}

@@ -1,25 +1,23 @@
 -- The nodes that the definitions give are a tree, and their numbers are exact.
-use Rattle.std.proofs.Common.{◌≡◌, ℕ, zero, suc, ◌+◌, ◌-◌, ◌<◌, ◌≤◌, ◌^◌, List, [], ◌∷◌, ◌++◌, ◌⊎◌, inl, inr, map, drop, get_or, length, Some, true, refl, sym, ap, ap₂, subst, ◌∙◌, arith}
+use Rattle.std.proofs.Common.{◌≡◌, ℕ, zero, suc, ◌+◌, ◌-◌, ◌<◌, ◌≤◌, ◌^◌, List, [], ◌∷◌, ◌++◌, ◌⊎◌, inl, inr, map, drop, get_or, length, Some, refl, sym, ap, subst, ◌∙◌, arith}
 use Rattle.std.specs.Prelude.{flat_map, IsPermutation, filter}
-use Rattle.std.specs.List.{AllByRecursion, Contains, slice_get, sum_by}
+use Rattle.std.specs.List.{AllByRecursion, Contains, slice_get}
 use Rattle.std.proofs.lemmas.List.{length-map}
 use Rattle.std.proofs.lemmas.List.Sorted.{IsPermutation-sym, Contains-permutation}
 use Rattle.prof_base.specs.Ordered.{numbers_from}
 use Rattle.prof_base.proofs.Ordered.{Has, has_from_contains, contains_from_has}
 use Rattle.code_event.specs.DeoptReasons.{DeoptReasons}
-use Rattle.code_event.specs.Tree.{nodes, id_of, is_below, children, fin_node, fin_nodes, line_ticks}
+use Rattle.code_event.specs.Tree.{nodes, id_of, is_below, fin_node, fin_nodes, line_ticks}
 use Rattle.code_event.specs.declared.path.PathStep.{PathStep}
 use Rattle.code_event.specs.declared.visit.Visit.{Visit}
 use Rattle.code_event.specs.declared.profile.FinNode.{FinNode}
-use Rattle.code_event.specs.declared.profile.LineTicks.{LineTicks}
-use Rattle.code_event.proofs.Members.{has_filtered, filtered_passes}
+use Rattle.code_event.proofs.Members.{filtered_passes}
 use Rattle.code_event.proofs.TreeParents.{parents_first}
 use Rattle.code_event.proofs.TreeIds.{ids_number_nodes}
 use Rattle.code_event.proofs.TreeChildren.{children_listed}
 use Rattle.code_event.proofs.TreeNodes.{root_first}
 use Rattle.code_event.proofs.TreeHits.{lines_count_hits}
 use Rattle.cpuprofile.specs.declared.profile.FileNode.{FileNode}
-use Rattle.cpuprofile.specs.declared.profile.FileTicks.{FileTicks}
 use Rattle.cpuprofile.specs.Converted.{file_ticks, file_node, file_nodes}
 use Rattle.cpuprofile.specs.Given.{HasSmallNumbers}
 use Rattle.cpuprofile.specs.Valid.{IsExact, HasExactTicks, HasExactNumbers, ids, AreDifferent, IsReachedOnce, IsTree}

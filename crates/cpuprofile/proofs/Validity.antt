@@ -1,11 +1,10 @@
 -- The profile of what the definitions give is valid.
-use Rattle.std.proofs.Common.{◌≡◌, ℕ, ◌-◌, ◌<◌, ◌≤◌, ◌^◌, List, [], ◌∷◌, map, length, suc, refl, sym, ap, subst, ◌∙◌, arith}
+use Rattle.std.proofs.Common.{◌≡◌, ℕ, ◌<◌, ◌≤◌, ◌^◌, List, [], ◌∷◌, map, length, suc, refl, sym, ap, subst, ◌∙◌, arith}
 use Rattle.std.specs.List.{AllByRecursion, Contains}
 use Rattle.std.proofs.lemmas.List.{length-map}
 use Rattle.std.proofs.lemmas.List.Elements.{recursion_from_All}
 use Rattle.code_event.specs.Profile.{cut, samples, deltas}
 use Rattle.code_event.specs.Tree.{nodes, fin_nodes}
-use Rattle.code_event.specs.declared.visit.Visit.{Visit}
 use Rattle.code_event.specs.declared.profile.Finished.{Finished}
 use Rattle.code_event.proofs.TreeNodes.{samples_within}
 use Rattle.cpuprofile.specs.declared.profile.Profile.{Profile}

@@ -1,10 +1,10 @@
 -- Walks along children: where each number but the first is a child of exactly one place, each node is reached by exactly one.
-use Rattle.std.proofs.Common.{◌≡◌, ◌≢◌, ℕ, zero, suc, ◌+◌, ◌<◌, ◌≤◌, List, [], ◌∷◌, ◌++◌, ◌⊎◌, inl, inr, length, cond, Bool, true, false, Option, Some, None, eqb, eqb-true, eq-eqb, ne_eqb, refl, sym, ap, ap₂, subst, ◌∙◌, arith}
+use Rattle.std.proofs.Common.{◌≡◌, ◌≢◌, ℕ, zero, suc, ◌+◌, ◌<◌, ◌≤◌, List, [], ◌∷◌, ◌++◌, ◌⊎◌, inl, inr, cond, Bool, true, false, Option, Some, None, eqb, eqb-true, eq-eqb, ne_eqb, refl, sym, ap, ap₂, ◌∙◌, arith}
 use Rattle.std.specs.Prelude.{flat_map, option_and_then}
 use Rattle.std.specs.List.{AllByRecursion, slice_get}
 use Rattle.prof_base.proofs.Ordered.{Has}
 use Rattle.cpuprofile.specs.declared.profile.FileNode.{FileNode}
-use Rattle.cpuprofile.specs.Valid.{ids, AreDifferent, children_of, walk_end, IsReachedOnce}
+use Rattle.cpuprofile.specs.Valid.{ids, AreDifferent, children_of, walk_end}
 use Rattle.cpuprofile.proofs.Once.{times_in, times_in-append, has_times, got_has, has_got, one_place}
 use Rattle.cpuprofile.proofs.Each.{each_has}
 

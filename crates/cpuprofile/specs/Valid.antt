@@ -1,5 +1,5 @@
 -- Which profiles are valid.
-use Rattle.std.specs.Prelude.{◌≡◌, ◌≢◌, ℕ, zero, suc, ◌^◌, ◌<◌, ◌≤◌, ℤ, pos, negsuc, List, [], ◌∷◌, length, map, ◌==◌, Option, Some, option_and_then, if◌then◌else◌}
+use Rattle.std.specs.Prelude.{◌≡◌, ◌≢◌, ℕ, suc, ◌^◌, ◌<◌, ℤ, pos, negsuc, List, [], ◌∷◌, length, map, ◌==◌, Option, Some, option_and_then, if◌then◌else◌}
 use Rattle.std.specs.List.{AllByRecursion, Contains, slice_get}
 use Rattle.cpuprofile.specs.declared.profile.FileNode.{FileNode}
 use Rattle.cpuprofile.specs.declared.profile.FileTicks.{FileTicks}

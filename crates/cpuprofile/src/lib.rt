@@ -4,6 +4,7 @@
 
 mod convert;
 mod file_text;
+pub mod laws;
 mod profile;
 mod write;
 

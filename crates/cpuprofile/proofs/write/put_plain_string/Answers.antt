@@ -1,6 +1,5 @@
 use Rattle.std.proofs.Common.{◌++◌, ◌∷◌, [], ◌∙◌, ap, sym, codes}
 use Rattle.std.proofs.lemmas.Result.{on_ok_weaker}
-use Rattle.json.specs.Print.{quoted}
 use Rattle.cpuprofile.proofs.Appends.{appended_3}
 use Rattle.cpuprofile.proofs.Escapes.{escape-none}
 use Rattle.cpuprofile.proofs.write.put_plain_string.Goals as goal
