@@ -1,0 +1,10 @@
+pub mod Appends
+pub mod Converted
+pub mod Each
+pub mod Escapes
+pub mod Joined
+pub mod Once
+pub mod Trees
+pub mod Validity
+pub mod Walks
+pub mod SeenGives
