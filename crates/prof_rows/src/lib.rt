@@ -6,6 +6,8 @@
 #[cfg(test)]
 mod base;
 #[cfg(test)]
+mod code_maps;
+#[cfg(test)]
 mod events;
 #[cfg(test)]
 mod profiles;
