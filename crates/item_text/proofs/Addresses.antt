@@ -1,5 +1,5 @@
 -- Addresses up to the end of a line, as a loop reads them.
-use Rattle.std.proofs.Common.{◌≡◌, ◌∙◌, ℕ, suc, ◌-◌, ◌^◌, List, [], ◌∷◌, ◌++◌, true, false, Ok, Err, refl, sym, ap, append_assoc, append-nil, subst}
+use Rattle.std.proofs.Common.{◌≡◌, ◌∙◌, ℕ, suc, List, [], ◌∷◌, ◌++◌, true, false, Ok, Err, refl, sym, ap, append_assoc, append-nil, subst}
 use Rattle.prof_lines.specs.declared.fault.Cause.{Cause}
 use Rattle.prof_lines.specs.declared.fault.LineFault.{LineFault}
 use Rattle.prof_lines.specs.declared.fault.LineFault.TheVariants as faults

@@ -1,8 +1,7 @@
 -- The lines of the canonical text of an item list spell it.
-use Rattle.std.proofs.Common.{◌≡◌, ℕ, ◌^◌, ◌<◌, ◌≤◌, List, [], ◌∷◌, map, Bool, true, false, Option, Some, None, refl, arith, codes, decimal, lit<}
+use Rattle.std.proofs.Common.{◌≡◌, ℕ, ◌^◌, ◌<◌, List, [], ◌∷◌, map, Bool, true, false, Option, Some, None, refl, arith, codes, decimal, lit<}
 use Rattle.std.specs.List.{AllByRecursion}
 use Rattle.prof_lines.specs.Words.{InRange}
-use Rattle.prof_lines.specs.Lines.{counted}
 use Rattle.prof_lines.specs.Canonical.{begins_line, IsLine}
 use Rattle.prof_lines.proofs.Canonical.{canonical_spells}
 use Rattle.prof_lines.proofs.CanonicalLines.{IsOneLine, is_line, word_one_line, quoted_one_line}

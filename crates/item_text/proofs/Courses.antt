@@ -1,19 +1,16 @@
 -- What lines say, as it is kept: with one more line, and what the rules make of it.
-use Rattle.std.proofs.Common.{◌≡◌, ◌∙◌, ℕ, suc, List, [], ◌∷◌, ◌++◌, map, length, Bool, true, false, cond, ◌||◌, ◌==◌, not, nat_lt, Option, Some, None, refl, sym, ap, subst, append_assoc}
+use Rattle.std.proofs.Common.{◌≡◌, ◌∙◌, ℕ, List, [], ◌∷◌, ◌++◌, Bool, ◌||◌, ◌==◌, Option, refl, sym, ap, subst}
 use Rattle.std.proofs.lemmas.List.{map-append}
-use Rattle.prof_lines.specs.declared.fault.Cause.{Cause}
 use Rattle.code_event.specs.ItemList.{ListSoFar, without}
-use Rattle.code_event.specs.declared.event.TheConstants.{MAX_SESSIONS}
 use Rattle.code_event.specs.declared.tick.Item.{Item}
-use Rattle.item_text.specs.declared.rule.Rule.{Rule}
 use Rattle.item_text.specs.declared.item_line.LineEvent.{LineEvent}
 use Rattle.item_text.specs.declared.item_line.LineEvent.TheVariants.{Move, NoOpt, Deopt, Delete, Start, Stop, Finish}
 use Rattle.item_text.specs.declared.item_line.ItemLine.{ItemLine}
 use Rattle.item_text.specs.declared.item_line.ItemLine.TheVariants as line
 use Rattle.item_text.specs.declared.item_line.TextLine.{TextLine}
 use Rattle.item_text.specs.declared.item_line.TextLine.TheVariants.{Head, Body}
-use Rattle.item_text.specs.ItemRules.{BegunCode, Course, no_course, list_after_event, list_after, is_finish, begun_after, item_after, course_after, course_on, course_of, is_among, is_in_place, may_end}
-use Rattle.item_text.specs.ItemRules.{is_earlier, item_time, breaks_order, event_breaks_session, breaks_session, breaks_limit, item_fault}
+use Rattle.item_text.specs.ItemRules.{BegunCode, Course, no_course, list_after_event, list_after, is_finish, begun_after, item_after, course_after, course_on, course_of}
+use Rattle.item_text.specs.ItemRules.{breaks_order, event_breaks_session, breaks_session, item_fault}
 use Rattle.item_text.specs.Items.{with_head}
 use Rattle.item_text.specs.ItemDraft.{Agree, Reflects, draft_lines}
 

@@ -1,5 +1,5 @@
 -- What is kept of an item list after one more line, for each kind of line.
-use Rattle.std.proofs.Common.{◌≡◌, ◌∙◌, ℕ, List, [], ◌∷◌, ◌++◌, map, length, Bool, true, false, cond, ◌||◌, ◌==◌, not, Option, Some, None, refl, sym, ap, subst, append_assoc, append-nil}
+use Rattle.std.proofs.Common.{◌≡◌, ◌∙◌, ℕ, List, [], ◌∷◌, ◌++◌, map, length, Bool, true, false, cond, ◌||◌, not, Option, Some, None, refl, sym, ap, subst, append_assoc, append-nil}
 use Rattle.std.proofs.lemmas.Bool.{or_parts, eqb-true, not-false}
 use Rattle.std.proofs.lemmas.List.{map-append}
 use Rattle.prof_lines.specs.declared.fault.Cause.{Cause}
@@ -15,7 +15,7 @@ use Rattle.item_text.specs.declared.item_line.ItemLine.{ItemLine}
 use Rattle.item_text.specs.declared.item_line.ItemLine.TheVariants as line
 use Rattle.item_text.specs.declared.item_line.TextLine.{TextLine}
 use Rattle.item_text.specs.declared.item_line.TextLine.TheVariants.{Body}
-use Rattle.item_text.specs.ItemRules.{BegunCode, Course, list_after_event, is_finish_event, with_unit, with_slot, item_after, course_of, is_none, is_in_place, is_earlier, item_time, breaks_order, breaks_session, breaks_limit, item_fault}
+use Rattle.item_text.specs.ItemRules.{BegunCode, Course, list_after_event, is_finish_event, with_unit, with_slot, item_after, course_of, is_none, is_in_place, is_earlier, item_time, breaks_order, item_fault}
 use Rattle.item_text.specs.Items.{code_lines, event_lines, lines_of_items, with_head}
 use Rattle.item_text.specs.ItemDraft.{Agree, Reflects, draft_lines}
 use Rattle.item_text.proofs.Courses.{agree_itself, fault_same, draft_more}

@@ -1,22 +1,19 @@
 -- A stamped item list is determined by its lines.
-use Rattle.std.proofs.Common.{◌≡◌, ◌∙◌, ℕ, suc, ◌<◌, ◌≤◌, List, [], ◌∷◌, ◌++◌, map, Bool, true, false, Option, Some, None, refl, sym, ap, ap₂, append_assoc, arith, ◌⊎◌, inl, inr}
+use Rattle.std.proofs.Common.{◌≡◌, ◌∙◌, ℕ, suc, ◌<◌, ◌≤◌, List, [], ◌∷◌, ◌++◌, map, Option, Some, None, refl, sym, ap, ap₂, append_assoc, arith, ◌⊎◌, inl, inr}
 use Rattle.std.proofs.Math.Bridge.{le_prop}
 use Rattle.std.proofs.lemmas.Bool.{cases_lt}
 use Rattle.prof_base.specs.declared.interval.TheConstants.{MAX_INTERVAL}
 use Rattle.prof_base.specs.declared.ids.SessionId.{SessionId}
 use Rattle.code_event.proofs.Stamping.{stamped_are_one}
-use Rattle.code_event.specs.ItemList.{stamped_event, stamped_behind, IsStamped}
+use Rattle.code_event.specs.ItemList.{stamped_behind, IsStamped}
 use Rattle.code_event.specs.declared.event.CodeEvent.{CodeEvent}
 use Rattle.code_event.specs.declared.event.CodeEvent.TheVariants as event
 use Rattle.code_event.specs.declared.event.Mode.{Mode}
 use Rattle.code_event.specs.declared.event.Options.{Options}
-use Rattle.code_event.specs.declared.event.EventRecord.{EventRecord}
 use Rattle.code_event.specs.declared.layout.Slot.{Slot}
 use Rattle.code_event.specs.declared.layout.Unit.{Unit as CodeUnit}
 use Rattle.code_event.specs.declared.tick.Item.{Item}
 use Rattle.code_event.specs.declared.tick.Item.TheVariants as item
-use Rattle.code_event.specs.declared.tick.Tick.{Tick}
-use Rattle.item_text.specs.declared.item_line.LineEvent.{LineEvent}
 use Rattle.item_text.specs.declared.item_line.LineEvent.TheVariants.{Move, NoOpt, Deopt, Delete, Start, Stop, Finish}
 use Rattle.item_text.specs.declared.item_line.TickLine.{TickLine}
 use Rattle.item_text.specs.declared.item_line.ItemLine.{ItemLine}
@@ -24,7 +21,7 @@ use Rattle.item_text.specs.declared.item_line.ItemLine.TheVariants as line
 use Rattle.item_text.specs.declared.item_line.TextLine.{TextLine}
 use Rattle.item_text.specs.declared.item_line.TextLine.TheVariants.{Head, Body}
 use Rattle.item_text.specs.declared.items.ItemList.{ItemList}
-use Rattle.item_text.specs.Items.{event_lines, tick_line, lines_of_item, lines_of_items, with_head, item_lines}
+use Rattle.item_text.specs.Items.{event_lines, tick_line, lines_of_items, item_lines}
 
 -- an item without its stamps: its first line, its units and its slots
 abbrev Bare : Type 0

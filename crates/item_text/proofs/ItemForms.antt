@@ -1,9 +1,9 @@
 -- The forms of the lines of item lists: what is read is spelled so, and what is spelled so is read.
-use Rattle.std.proofs.Common.{◌≡◌, ℕ, List, [], ◌∷◌, map, Bool, true, false, Option, Some, None, Result, Ok, Err, IfOk, refl, sym, ◌∙◌, subst, codes, decimal, inl, inr, lit<}
+use Rattle.std.proofs.Common.{◌≡◌, ℕ, List, [], ◌∷◌, Bool, true, false, Option, Some, None, Result, Ok, Err, IfOk, refl, sym, ◌∙◌, subst, codes, decimal, inl, inr, lit<}
 use Rattle.prof_base.specs.declared.interval.TheConstants.{MAX_INTERVAL}
 use Rattle.prof_lines.specs.declared.fault.LineFault.{LineFault}
 use Rattle.prof_lines.specs.Answers.{Front, Gives, ◌>>=◌}
-use Rattle.prof_lines.specs.Words.{InRange, word_at, numbers_at}
+use Rattle.prof_lines.specs.Words.{InRange, numbers_at}
 use Rattle.prof_lines.specs.Spelled.{BeginsWith, HasWords, IsWord}
 use Rattle.prof_lines.specs.Forms.{IsForm}
 use Rattle.prof_lines.proofs.Steps.{ok_same, bind_ok, chosen}

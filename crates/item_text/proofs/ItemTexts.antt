@@ -1,9 +1,6 @@
 -- What is read of the text of an item list.
-use Rattle.std.proofs.Common.{◌≡◌, ◌∙◌, ℕ, List, [], ◌∷◌, Bool, true, false, Result, Ok, Err, refl, sym, ap, subst, IfOk, IfErr}
+use Rattle.std.proofs.Common.{◌≡◌, ◌∙◌, ℕ, List, [], ◌∷◌, true, Ok, Err, refl, sym, ap, subst}
 use Rattle.prof_lines.specs.declared.fault.Cause.{Cause}
-use Rattle.prof_lines.specs.declared.fault.TextFault.{TextFault}
-use Rattle.prof_lines.specs.declared.fault.TextFault.TheVariants as faults
-use Rattle.prof_lines.specs.Answers.{Reads}
 use Rattle.prof_lines.specs.Lines.{counted}
 use Rattle.prof_lines.specs.Folds.{IsTextFault}
 use Rattle.prof_lines.specs.Values.{EachIsSpelled}

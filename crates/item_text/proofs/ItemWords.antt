@@ -1,5 +1,5 @@
 -- The words and numbers in lines of item lists: what is read is spelled so, and what is spelled so is read.
-use Rattle.std.proofs.Common.{◌≡◌, ℕ, ◌^◌, ◌-◌, ◌≤◌, ◌<◌, List, map, Bool, true, false, Result, Ok, Err, Option, Some, None, IfSome, refl, sym, subst, arith, codes, decimal, inl, inr, lit<}
+use Rattle.std.proofs.Common.{◌≡◌, ℕ, ◌^◌, ◌-◌, ◌<◌, List, map, Bool, true, false, Ok, Option, Some, None, IfSome, refl, subst, arith, codes, decimal, inl, inr, lit<}
 use Rattle.prof_base.specs.Text.{IsText}
 use Rattle.prof_base.specs.declared.ids.TheConstants.Micros.{MAX}
 use Rattle.prof_base.specs.declared.interval.TheConstants.{MAX_INTERVAL, MAX_ROUNDED}
@@ -21,7 +21,7 @@ use Rattle.code_event.specs.declared.tick.TheConstants.Frames.{MAX_LEN}
 use Rattle.record_text.specs.declared.limits.TheConstants.{MAX_PORT}
 use Rattle.item_text.specs.declared.rule.Rule.{Rule}
 use Rattle.item_text.specs.ItemLine.{MAX_ADDRESS, MAX_LINE, MAX_INDEX, mode_word, state_word, hit_word, files_word, max_word, only_word, IsMax, IsOnly}
-use Rattle.item_text.specs.ItemForms.{Read, mode_of, state_of, flag_of, hit_of, files_of, bound_of, numbered, only_of}
+use Rattle.item_text.specs.ItemForms.{mode_of, state_of, hit_of, files_of, bound_of, numbered, only_of}
 
 abbrev pub IsAny : {A : Type 0} → A → Type 0
 IsAny x = Unit {0}

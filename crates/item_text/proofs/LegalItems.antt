@@ -1,5 +1,5 @@
 -- That a list whose lines keep the rules is legal.
-use Rattle.std.proofs.Common.{◌≡◌, ◌∙◌, ℕ, ◌<◌, ◌≤◌, List, [], ◌∷◌, ◌++◌, map, length, Bool, true, false, cond, ◌||◌, ◌==◌, not, nat_lt, Option, Some, None, refl, sym, ap, subst, append_assoc, append-nil, arith, inl, inr}
+use Rattle.std.proofs.Common.{◌≡◌, ◌∙◌, ℕ, ◌≤◌, List, [], ◌∷◌, ◌++◌, map, length, Bool, true, false, cond, ◌||◌, ◌==◌, not, nat_lt, Some, None, refl, sym, ap, subst, append_assoc, append-nil, arith, inl, inr}
 use Rattle.std.specs.List.{Contains}
 use Rattle.std.proofs.lemmas.Bool.{or_parts, or_cases, eqb-true, ltb-true, not-false}
 use Rattle.std.proofs.lemmas.Bool.Decides.{nat_tests}
@@ -8,7 +8,7 @@ use Rattle.prof_base.proofs.Ordered.{Has, has_from_contains, contains_from_has}
 use Rattle.prof_lines.specs.declared.fault.Cause.{Cause}
 use Rattle.prof_lines.specs.Values.{Keeps}
 use Rattle.code_event.specs.declared.event.TheConstants.{MAX_SESSIONS}
-use Rattle.code_event.specs.ItemList.{ListSoFar, MayCome, IsLegalAfter, without}
+use Rattle.code_event.specs.ItemList.{ListSoFar, MayCome, IsLegalAfter}
 use Rattle.code_event.specs.declared.event.CodeEvent.{CodeEvent}
 use Rattle.code_event.specs.declared.event.CodeEvent.TheVariants as event
 use Rattle.code_event.specs.declared.layout.Slot.{Slot}
@@ -16,15 +16,14 @@ use Rattle.code_event.specs.declared.layout.Unit.{Unit as CodeUnit}
 use Rattle.code_event.specs.declared.tick.Item.{Item}
 use Rattle.code_event.specs.declared.tick.Item.TheVariants as item
 use Rattle.item_text.specs.declared.rule.Rule.{Rule}
-use Rattle.item_text.specs.declared.item_line.LineEvent.TheVariants.{Move, NoOpt, Deopt, Delete, Start, Stop, Finish}
+use Rattle.item_text.specs.declared.item_line.LineEvent.TheVariants.{Start, Stop, Finish}
 use Rattle.item_text.specs.declared.item_line.ItemLine.{ItemLine}
 use Rattle.item_text.specs.declared.item_line.ItemLine.TheVariants as line
 use Rattle.item_text.specs.declared.item_line.TextLine.{TextLine}
 use Rattle.item_text.specs.declared.item_line.TextLine.TheVariants.{Head, Body}
-use Rattle.item_text.specs.declared.items.ItemList.{ItemList}
 use Rattle.item_text.specs.ItemLaws.{KeptListsAreLegal}
 use Rattle.item_text.specs.ItemRules.{Course, no_course, list_after, item_after, course_after, course_on, course_of, is_among, is_in_place, is_earlier, item_time, breaks_order, breaks_session, breaks_limit, item_fault, fault_after}
-use Rattle.item_text.specs.Items.{Fits, code_lines, event_lines, tick_line, lines_of_item, lines_of_items}
+use Rattle.item_text.specs.Items.{Fits, event_lines, tick_line, lines_of_item, lines_of_items}
 
 -- lines after the first, as lines of the text
 abbrev bodies : List ItemLine → List TextLine

@@ -1,5 +1,5 @@
 -- The canonical text of an item list, put together from its parts.
-use Rattle.std.proofs.Common.{◌≡◌, ◌∙◌, ℕ, List, [], ◌∷◌, ◌++◌, map, flat_map, refl, sym, ap, ap₂, append_assoc, append-nil, decimal, codes}
+use Rattle.std.proofs.Common.{◌≡◌, ◌∙◌, ℕ, List, [], ◌∷◌, ◌++◌, map, refl, sym, ap, ap₂, append_assoc, decimal, codes}
 use Rattle.std.proofs.lemmas.Grind.{flat_map-append}
 use Rattle.prof_lines.specs.Canonical.{further, line_of, text_of}
 use Rattle.code_event.specs.declared.event.CodeEvent.TheVariants as event
@@ -10,7 +10,6 @@ use Rattle.code_event.specs.declared.tick.Tick.{Tick}
 use Rattle.code_event.specs.Parts.{LayoutParts}
 use Rattle.item_text.specs.declared.item_line.ItemLine.{ItemLine}
 use Rattle.item_text.specs.declared.item_line.ItemLine.TheVariants as line
-use Rattle.item_text.specs.declared.item_line.TextLine.{TextLine}
 use Rattle.item_text.specs.declared.item_line.TextLine.TheVariants.{Head, Body}
 use Rattle.item_text.specs.declared.items.ItemList.{ItemList}
 use Rattle.item_text.specs.ItemLine.{item_words, state_word, hit_word, only_word}

@@ -1,5 +1,5 @@
 -- How a line of an item list's text is read.
-use Rattle.std.specs.Prelude.{ℕ, ◌-◌, ◌^◌, List, [], ◌∷◌, Bool, true, false, Result, Ok, Err, if◌then◌else◌, bytes_eq, codes, Option, Some, None}
+use Rattle.std.specs.Prelude.{ℕ, ◌-◌, ◌^◌, List, Bool, true, false, Result, Ok, Err, if◌then◌else◌, bytes_eq, codes, Option, Some, None}
 use Rattle.prof_base.specs.declared.ids.TheConstants.Micros.{MAX}
 use Rattle.prof_base.specs.declared.interval.TheConstants.{MAX_INTERVAL, MAX_ROUNDED}
 use Rattle.prof_base.specs.declared.ids.SessionId.{SessionId}

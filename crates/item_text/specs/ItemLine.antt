@@ -1,5 +1,5 @@
 -- The lines of an item list's text: the words of each, and the ranges of their numbers.
-use Rattle.std.specs.Prelude.{ℕ, ◌-◌, ◌^◌, List, [], ◌∷◌, ◌++◌, map, Bool, true, false, Option, Some, None, IfSome, codes, decimal}
+use Rattle.std.specs.Prelude.{ℕ, ◌-◌, ◌^◌, List, [], ◌∷◌, map, Bool, true, false, Option, Some, None, IfSome, codes, decimal}
 use Rattle.prof_base.specs.Text.{IsText}
 use Rattle.prof_base.specs.declared.ids.TheConstants.Micros.{MAX}
 use Rattle.prof_base.specs.declared.interval.TheConstants.{MAX_INTERVAL, MAX_ROUNDED}

@@ -1,5 +1,5 @@
 -- The canonical text of an item list, part by part, as it is written.
-use Rattle.std.specs.Prelude.{ℕ, List, [], ◌∷◌, ◌++◌, flat_map, decimal}
+use Rattle.std.specs.Prelude.{ℕ, List, ◌∷◌, flat_map, decimal}
 use Rattle.prof_lines.specs.Canonical.{line_of}
 use Rattle.code_event.specs.declared.event.CodeEvent.{CodeEvent}
 use Rattle.code_event.specs.declared.layout.Slot.{Slot}

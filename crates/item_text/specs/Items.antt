@@ -1,5 +1,5 @@
 -- Item lists and their text.
-use Rattle.std.specs.Prelude.{◌≡◌, ℕ, List, [], ◌∷◌, ◌++◌, map, flat_map, true, if◌then◌else◌, Result, Ok, Err, Option, None}
+use Rattle.std.specs.Prelude.{◌≡◌, ℕ, List, [], ◌∷◌, ◌++◌, map, flat_map, true, if◌then◌else◌, Result, Ok, Err}
 use Rattle.prof_base.specs.declared.interval.TheConstants.{MAX_INTERVAL}
 use Rattle.prof_lines.specs.declared.fault.Cause.{Cause}
 use Rattle.prof_lines.specs.declared.fault.Cause.TheVariants as causes
