@@ -2,9 +2,9 @@
 use Rattle.std.proofs.Common.{◌≡◌, ℕ, ◌^◌, ◌<◌, List, [], ◌∷◌, map, Bool, true, false, Option, Some, None, refl, arith, codes, decimal, lit<}
 use Rattle.std.specs.List.{AllByRecursion}
 use Rattle.prof_lines.specs.Words.{InRange}
-use Rattle.prof_lines.specs.Canonical.{begins_line, IsLine}
+use Rattle.prof_lines.specs.Canonical.{begins_line, IsLine, IsOneLine}
 use Rattle.prof_lines.proofs.Canonical.{canonical_spells}
-use Rattle.prof_lines.proofs.CanonicalLines.{IsOneLine, is_line, word_one_line, quoted_one_line}
+use Rattle.prof_lines.proofs.CanonicalLines.{is_line, word_one_line, quoted_one_line}
 use Rattle.prof_lines.proofs.Numbers.{decimal_word}
 use Rattle.code_event.specs.declared.layout.Site.{Site}
 use Rattle.item_text.specs.declared.item_line.LineEvent.{LineEvent}

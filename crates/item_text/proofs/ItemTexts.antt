@@ -32,7 +32,7 @@ lines_taken text lines h =
 
 -- the lines of a list that keep the rules are read from a text that spells them
 lines_again : (text : List ℕ) (list : ItemList) → KeepRules (item_lines list) → Spells text list → lines_read text ≡ Ok (item_lines list)
-lines_again text list rules s = text_again line_after Fits item_words fault_after items_end line_form text (item_lines list) (item_lines list) (rules.each, s) (rw rules.ended refl)
+lines_again text list rules s = text_again line_after Fits item_words fault_after items_end line_form text (item_lines list) (item_lines list, (rules.each, s), rw rules.ended refl)
 
 pub spelled : (text : List ℕ) (list : ItemList) → lines_read text ≡ Ok (item_lines list) → Spells text list
 spelled text list h = (lines_taken text (item_lines list) h).1
