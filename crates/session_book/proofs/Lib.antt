@@ -1,0 +1,4 @@
+pub mod Appended
+pub mod Counting
+pub mod Samples
+pub mod Recorded
