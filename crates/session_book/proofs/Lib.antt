@@ -2,3 +2,8 @@ pub mod Appended
 pub mod Counting
 pub mod Samples
 pub mod Recorded
+pub mod Ending
+pub mod Places
+pub mod Ticking
+pub mod Standing
+pub mod OfBook

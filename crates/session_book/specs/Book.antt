@@ -1,5 +1,5 @@
 -- What a book stands for.
-use Rattle.std.specs.Prelude.{◌≡◌, ℕ, ◌≤◌, List, [], ◌∷◌, length, map, nat_le, ◌==◌, if◌then◌else◌}
+use Rattle.std.specs.Prelude.{◌≡◌, ℕ, ◌<◌, ◌≤◌, true, false, slice_index, List, [], ◌∷◌, length, map, nat_le, ◌==◌, if◌then◌else◌}
 use Rattle.std.specs.List.{AllByRecursion}
 use Rattle.std.specs.Ordering.{nat_cmp}
 use Rattle.prof_base.specs.Ordered.{Rises}
@@ -33,6 +33,12 @@ running book = map number_of book.sessions
 -- the intervals that the running sessions ask for
 unfoldable pub intervals : BookParts → List ℕ
 intervals book = map (λ (session : Session). session.options.interval) book.sessions
+
+-- the place before the first id that is not less, or the end
+pub record IsPlaceFor (number : ℕ) (ids : List ℕ) (at : ℕ) : Type 0 where
+  pub within : at ≤ length ids
+  pub here : at < length ids → nat_le number (slice_index ids at) ≡ true
+  pub before : (k : ℕ) → k < at → nat_le number (slice_index ids k) ≡ false
 
 -- a session before the first whose id is not less
 abbrev pub with_session : Session → List Session → List Session

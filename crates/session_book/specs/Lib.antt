@@ -3,4 +3,5 @@ pub mod Counter
 pub mod Sampled
 pub mod Session
 pub mod Book
-pub mod Laws
+pub mod Refused
+

@@ -1,7 +1,7 @@
 // Lists of running sessions, in the order of their ids.
-ghost use Rattle.std.specs.Prelude.{◌≡◌, ◌↔◌, ◌==◌, length, map, find, position, nat_le, IsTrue, OnOk, OnErr, ℕ};
+ghost use Rattle.std.specs.Prelude.{◌≡◌, ◌↔◌, ◌==◌, length, map, find, position, nat_le, IsTrue, IfNone, OnOk, OnErr, ℕ};
 ghost use Rattle.std.specs.List.{AllZip, Contains};
-ghost use Rattle.session_book.specs.Book.{number_of, with_session, without_session};
+ghost use Rattle.session_book.specs.Book.{IsPlaceFor, number_of, with_session, without_session};
 ghost use Rattle.session_book.specs.Session.{TakesTick};
 
 use crate::session::Session;
@@ -29,15 +29,22 @@ pub(crate) fn runs(sessions: &[Session], id: SessionId) -> bool
     place_of(sessions, id).is_some()
 }
 
+// Returns the place at which a session is put: before the first whose id is not less.
+fn place_for(sessions: &[Session], id: SessionId) -> usize
+    ensures { IsPlaceFor id.0 (map number_of sessions.now) result }
+{
+    match first_from(sessions, id) {
+        Some(at) => at,
+        None => sessions.len(),
+    }
+}
+
 /// Puts a session to its place. When out of memory, it leaves the list unchanged.
 pub(crate) fn put_session(sessions: &mut Vec<Session>, session: Session) -> Result<(), Memory>
     ensures ok { OnOk result (sessions.new.items ≡ with_session session sessions.old.items) }
     ensures err { OnErr result (sessions.new.items ≡ sessions.old.items) }
 {
-    let at = match first_from(sessions.as_slice(), session.id) {
-        Some(at) => at,
-        None => sessions.len(),
-    };
+    let at = place_for(sessions.as_slice(), session.id);
     sessions.insert(at, session)?;
     Ok(())
 }
@@ -45,6 +52,7 @@ pub(crate) fn put_session(sessions: &mut Vec<Session>, session: Session) -> Resu
 /// Takes a session out, if it is listed.
 pub(crate) fn take_session(sessions: &mut Vec<Session>, id: SessionId) -> Option<Session>
     ensures taken { result ≡ find (λ session. session.id.0 == id.0) sessions.old.items }
+    ensures unchanged { IfNone result (sessions.new.items ≡ sessions.old.items) }
     ensures others { sessions.new.items ≡ without_session id.0 sessions.old.items }
 {
     match place_of(sessions.as_slice(), id) {
