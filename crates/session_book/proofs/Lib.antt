@@ -7,3 +7,5 @@ pub mod Places
 pub mod Ticking
 pub mod Standing
 pub mod OfBook
+pub mod Stopping
+pub mod Intervals

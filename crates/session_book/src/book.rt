@@ -1,20 +1,25 @@
 // The book.
-ghost use Rattle.std.specs.Prelude.{◌≡◌, ◌≤◌, ◌++◌, [], ◌∷◌, List, option_map, IfErr, OnOk, OnErr};
-ghost use Rattle.std.specs.List.{slice_get};
+ghost use Rattle.std.specs.Prelude.{◌≡◌, ◌≤◌, ◌++◌, [], ◌∷◌, List, Some, false, option_map, IfOk, IfErr, OnOk, OnErr};
+ghost use Rattle.std.specs.List.{AllByRecursion, Contains, slice_get};
 ghost use Rattle.std.specs.Ordering.{nat_cmp};
+ghost use Rattle.prof_base.specs.Interval.{IsSourceInterval};
 ghost use Rattle.prof_base.specs.Ordered.{Rises, insert_sorted};
-ghost use Rattle.prof_base.specs.declared.interval.TheConstants.{MAX_INTERVAL};
-ghost use Rattle.code_event.specs.Seen.{Seen, started, ticked};
+ghost use Rattle.prof_base.specs.declared.interval.TheConstants.{MAX_INTERVAL, MAX_ROUNDED};
+ghost use Rattle.code_event.specs.DeoptReasons.{DeoptReasons};
+ghost use Rattle.code_event.specs.ItemList.{without};
+ghost use Rattle.code_event.specs.Profile.{finished_of};
+ghost use Rattle.code_event.specs.RecordingLaws.{closes};
+ghost use Rattle.code_event.specs.Seen.{Seen, started, stopped, ticked};
 ghost use Rattle.code_event.specs.declared.seen.ResolvedFrame.{ResolvedFrame};
-ghost use Rattle.session_book.specs.Book.{StandsFor, running};
-ghost use Rattle.session_book.specs.Refused.{MayStart, IsStartRefused};
-ghost use Rattle.session_book.specs.Session.{paths_over, seen_tick};
+ghost use Rattle.session_book.specs.Book.{StandsFor, running, intervals};
+ghost use Rattle.session_book.specs.Refused.{MayStart, IsStartRefused, IsStopRefused};
+ghost use Rattle.session_book.specs.Session.{paths_over, seen_tick, without_reasons};
 
-use crate::refused::StartRefused;
+use crate::refused::{StartRefused, StopRefused};
 use crate::session::Session;
-use crate::sessions::{put_session, runs, tick_each};
-use code_event::{MAX_SESSIONS, Options, PathPair, Tick};
-use prof_base::{MAX_INTERVAL, Memory, Micros, SessionId};
+use crate::sessions::{put_session, runs, take_session, tick_each};
+use code_event::{Finished, MAX_SESSIONS, Options, PathPair, Tick};
+use prof_base::{MAX_INTERVAL, MAX_ROUNDED, Memory, Micros, SessionId, gcd, rounded};
 use std::alloc::Global;
 use std::marker::Model;
 
@@ -104,6 +109,29 @@ impl Book {
         tick_each(&mut self.sessions, tick, paths)
     }
 
+    /// Stops a session, and returns its profile, whose nodes have no reasons yet. Where the session does
+    /// not run, it leaves the book unchanged. Out of memory, the session is lost.
+    pub fn stop(&mut self, id: SessionId, time: Micros) -> Result<Finished, StopRefused>
+        ensures base { self.new.base ≡ self.old.base }
+        ensures stands { OnOk result ((seen : List Seen) (reasons : DeoptReasons) → StandsFor self.old seen
+            → StandsFor self.new (seen ++ stopped id time reasons ∷ [])) }
+        ensures finished { IfOk result (λ finished. (seen : List Seen) (reasons : DeoptReasons) → StandsFor self.old seen
+            → AllByRecursion (λ mark. closes id.0 mark ≡ false) seen
+            → Some finished ≡ option_map without_reasons (finished_of self.old.base id (seen ++ stopped id time reasons ∷ []))) }
+        ensures unchanged { IfErr result (λ refusal. refusal ≡ StopRefused.NoSession → self.new ≡ self.old) }
+        ensures running { running self.new ≡ without id.0 (running self.old) }
+        ensures ok { OnOk result (Contains (running self.old) id.0) }
+        ensures refused { IfErr result (λ refusal. IsStopRefused (running self.old) id.0 refusal) }
+    {
+        let Some(session) = take_session(&mut self.sessions, id) else {
+            return Err(StopRefused::NoSession);
+        };
+        let Ok(finished) = session.finished(time) else {
+            return Err(StopRefused::Memory);
+        };
+        Ok(finished)
+    }
+
     /// Returns the least id of a running session.
     pub fn first_running(&self) -> Option<SessionId>
         ensures first { option_map (λ id. id.0) result ≡ slice_get (running self.now) 0 }
@@ -113,5 +141,18 @@ impl Book {
             Some(session) => Some(session.id),
             None => None,
         }
+    }
+
+    /// Returns the interval at which the isolate takes samples, in microseconds: the greatest common
+    /// divisor of the rounded intervals of the running sessions, or 0 if there are none.
+    pub fn source_interval(&self) -> u32
+        ensures source { IsSourceInterval self.now.base (intervals self.now) result }
+        ensures bound { result ≤ MAX_ROUNDED }
+    {
+        let mut source = 0u64;
+        for session in &self.sessions {
+            source = gcd(source, u64::from(rounded(self.base, session.options.interval)));
+        }
+        source as u32
     }
 }
