@@ -1,6 +1,6 @@
 -- What one more mark or tick changes, at the end of a list.
-use Rattle.std.proofs.Common.{◌≡◌, ℕ, ◌-◌, ◌<◌, ◌≤◌, List, [], ◌∷◌, ◌++◌, length, take, map, min, refl, sym, ap, ◌∙◌, append_assoc, append-nil, arith}
-use Rattle.std.specs.Prelude.{Bool, true, false, cond, ◌||◌, ◌==◌, nat_lt, Option, Some, None, option_map, if◌then◌else◌}
+use Rattle.std.proofs.Common.{◌≡◌, ℕ, ◌-◌, ◌<◌, ◌≤◌, List, [], ◌∷◌, ◌++◌, length, take, map, refl, sym, ap, ◌∙◌, append_assoc, append-nil, arith}
+use Rattle.std.specs.Prelude.{Bool, true, false, cond, ◌||◌, ◌==◌, nat_lt, Option, Some, None, option_map}
 use Rattle.std.specs.List.{AllByRecursion}
 use Rattle.std.specs.Ordering.{nat_cmp}
 use Rattle.std.proofs.lemmas.Bool.{cond-false, cond-true, cond_both}
@@ -95,11 +95,11 @@ pub take-push : {A : Type 0} (n : ℕ) (xs : List A) (x : A) → take n (xs ++ x
 take-push n xs x =
     cond_both (nat_lt (length (take n xs)) n) (take n xs ++ x ∷ []) (take n xs) (λ l. take n (xs ++ x ∷ []) ≡ l)
     (λ room.
-      let short : length xs < n = grind (arith, nat_tests, length-take n xs) in
-      take_all n (xs ++ x ∷ []) (omega (arith, length-append xs (x ∷ []))) ∙ ap (λ l. l ++ x ∷ []) (sym (take_all n xs (omega arith))))
+    let short : length xs < n = grind (arith, nat_tests, length-take n xs) in
+    take_all n (xs ++ x ∷ []) (omega (arith, length-append xs (x ∷ []))) ∙ ap (λ l. l ++ x ∷ []) (sym (take_all n xs (omega arith))))
     (λ full.
-      let long : n ≤ length xs = grind (arith, nat_tests, length-take n xs) in
-      take-append-le n xs (x ∷ []) long)
+    let long : n ≤ length xs = grind (arith, nat_tests, length-take n xs) in
+    take-append-le n xs (x ∷ []) long)
 
 pub cut-push : {A : Type 0} (most : Option ℕ) (xs : List A) (x : A) → cut most (xs ++ x ∷ []) ≡ cond (has_room most (length (cut most xs))) (cut most xs ++ x ∷ []) (cut most xs)
 cut-push None xs x = refl

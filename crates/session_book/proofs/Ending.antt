@@ -5,17 +5,16 @@ use Rattle.std.specs.List.{AllZip}
 use Rattle.std.proofs.lemmas.List.{take_all}
 use Rattle.prof_base.specs.Interval.{rounded_of}
 use Rattle.code_event.specs.DeoptReasons.{DeoptReasons, no_reasons}
-use Rattle.code_event.specs.Profile.{visit_of, visits_of, cut, deltas, samples, profile_of}
+use Rattle.code_event.specs.Profile.{visits_of, cut, deltas, samples}
 use Rattle.code_event.specs.Subsample.{kept}
 use Rattle.code_event.specs.Tree.{nodes, id_of, fin_node, fin_nodes}
 use Rattle.code_event.specs.declared.path.PathStep.{PathStep}
 use Rattle.code_event.specs.declared.profile.FinNode.{FinNode}
 use Rattle.code_event.specs.declared.profile.Finished.{Finished}
-use Rattle.code_event.specs.declared.recording.Begun.{Begun}
 use Rattle.code_event.specs.declared.visit.Visit.{Visit}
 use Rattle.profile_tree.specs.Grown.{StandsFor as IsTreeOf, Names}
 use Rattle.session_book.specs.Begun.{fresh}
-use Rattle.session_book.specs.Session.{paths_kept, times_of, last_time, HasKept, HasBegun, IsProfile, without_reasons}
+use Rattle.session_book.specs.Session.{paths_kept, times_of, last_time, HasBegun, IsProfile}
 use Rattle.session_book.specs.declared.session.Session.{Session}
 
 cut-nil : {A : Type 0} (most : Option ℕ) → cut {A = A} most [] ≡ []
@@ -68,9 +67,9 @@ is_profile s end finished session port start ends all_deltas all_nodes all_sampl
     let ticks = kept base begun in
     let visits = visits_of s.options.mode ticks in
     let nodes_are = all_nodes visits h.kept.tree ∙ sym (no_node_reasons visits reasons)
-        ∙ ap (λ o. map (λ (node : FinNode). record node { reason = None }) (fin_nodes (visits_of o.mode ticks) reasons)) h.options in
+    ∙ ap (λ o. map (λ (node : FinNode). record node { reason = None }) (fin_nodes (visits_of o.mode ticks) reasons)) h.options in
     let samples_are = all_samples visits (cut s.options.max_samples (paths_kept s.options.mode ticks)) h.kept.tree h.kept.samples ∙ listed_ids s.options.max_samples visits
-        ∙ ap (λ o. cut o.max_samples (samples (visits_of o.mode ticks))) h.options in
+    ∙ ap (λ o. cut o.max_samples (samples (visits_of o.mode ticks))) h.options in
     let deltas_are = all_deltas ∙ h.kept.deltas ∙ ap₂ (λ t o. deltas t (cut o.max_samples (times_of ticks))) h.start h.options in
     let port_is = port ∙ ap (λ o. o.port) h.options in
     let start_is = start ∙ h.start in

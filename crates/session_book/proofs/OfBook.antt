@@ -1,5 +1,5 @@
 -- What runs in a book, by its list of sessions.
-use Rattle.std.proofs.Common.{◌≡◌, ℕ, ◌<◌, ◌≤◌, List, [], ◌∷◌, ◌++◌, length, map, take, refl, sym, ap, ◌∙◌, subst, arith, rules, true≢false}
+use Rattle.std.proofs.Common.{◌≡◌, ℕ, ◌<◌, List, [], ◌∷◌, ◌++◌, length, map, take, refl, sym, ap, ◌∙◌, subst, arith, rules, true≢false}
 use Rattle.std.specs.Prelude.{◌↔◌, Option, option_map, Bool, true, false, IsTrue, Result, Ok, Err, OnOk, OnErr}
 use Rattle.std.specs.List.{AllZip, Contains, slice_get}
 use Rattle.std.proofs.lemmas.List.{length-map, take-append-le, take_all}

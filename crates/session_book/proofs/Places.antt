@@ -1,5 +1,5 @@
 -- The places of sessions in a list, by their ids.
-use Rattle.std.proofs.Common.{◌≡◌, ℕ, zero, suc, ◌+◌, ◌<◌, ◌≤◌, List, [], ◌∷◌, ◌++◌, length, map, get_or, take, drop, refl, sym, ap, ap₂, ◌∙◌, subst, arith}
+use Rattle.std.proofs.Common.{◌≡◌, ℕ, zero, suc, ◌+◌, ◌<◌, ◌≤◌, List, [], ◌∷◌, length, map, get_or, refl, sym, ap, ap₂, ◌∙◌, arith}
 use Rattle.std.specs.Prelude.{Bool, true, false, cond, not, ◌==◌, nat_le, nat_lt, Option, Some, None, find}
 use Rattle.std.specs.List.{insert, remove, position, position_or_len, Contains}
 use Rattle.std.specs.Prelude.{◌↔◌, IsTrue, is_some}
@@ -86,8 +86,10 @@ pub found_listed : (number : ℕ) (sessions : List Session) (place : Option ℕ)
 found_listed number sessions (Some at) e =
     let found = position-Some (λ m. m == number) (map number_of sessions) at number (sym (position-map (λ m. m == number) number_of sessions) ∙ e) in
     (λ is. (at, found.0, eqb-true _ _ found.1), λ has. search rules)
-found_listed number sessions None e =
-    (λ is. absurd (search rules), λ has.
+found_listed number sessions None e = (
+  λ is. absurd (search rules),
+  λ has.
       absurd (both_ways _
       (position-None (λ m. m == number) (map number_of sessions) number (sym (position-map (λ m. m == number) number_of sessions) ∙ e) has.0 has.1)
-      (eq-eqb _ _ has.2)))
+      (eq-eqb _ _ has.2)),
+)

@@ -1,18 +1,17 @@
 -- What a session has recorded, as it takes a tick.
-use Rattle.std.proofs.Common.{◌≡◌, ℕ, ◌-◌, List, [], ◌∷◌, ◌++◌, length, map, refl, sym, ap, ap₂, ◌∙◌, subst, append-nil, arith}
-use Rattle.std.specs.Prelude.{Bool, true, false, cond, Option, Some, None, if◌then◌else◌}
+use Rattle.std.proofs.Common.{◌≡◌, ℕ, ◌-◌, List, [], ◌∷◌, ◌++◌, length, map, refl, sym, ap, ap₂, ◌∙◌, subst, append-nil}
+use Rattle.std.specs.Prelude.{Bool, true, false, cond, Option, None}
 use Rattle.std.specs.List.{AllZip}
 use Rattle.std.proofs.lemmas.Bool.{cond-false, cond-true}
-use Rattle.std.proofs.lemmas.List.{map-append, length-map}
+use Rattle.std.proofs.lemmas.List.{map-append}
 use Rattle.prof_base.specs.Interval.{rounded_of}
 use Rattle.code_event.specs.Profile.{visit_of, visits_of, cut, deltas}
-use Rattle.code_event.specs.Recording.{is_for, with_tick}
-use Rattle.code_event.specs.Subsample.{kept, kept_since}
+use Rattle.code_event.specs.Recording.{is_for}
+use Rattle.code_event.specs.Subsample.{kept}
 use Rattle.code_event.specs.Symbolizer.{path, leaf_line}
 use Rattle.code_event.specs.declared.event.Mode.{Mode}
 use Rattle.code_event.specs.declared.event.Mode.TheVariants.{Leaf, Caller}
 use Rattle.code_event.specs.declared.path.PathPair.{PathPair}
-use Rattle.code_event.specs.declared.path.PathStep.{PathStep}
 use Rattle.code_event.specs.declared.recording.Begun.{Begun}
 use Rattle.code_event.specs.declared.seen.ResolvedFrame.{ResolvedFrame}
 use Rattle.code_event.specs.declared.seen.ResolvedTick.{ResolvedTick}
@@ -62,10 +61,10 @@ kept_one_more old new tick frames ticks k h =
     let room_paths : room ≡ has_room most (length (cut most paths)) = ap (has_room most) count in
     let room_times : room ≡ has_room most (length (cut most times)) = room_paths ∙ ap (has_room most) (length_listed most mode ticks) in
     let all_paths : cond room (cut most paths ++ path mode frames ∷ []) (cut most paths) ≡ cut most (paths_kept mode more) =
-        ap (λ b. cond b (cut most paths ++ path mode frames ∷ []) (cut most paths)) room_paths ∙ sym (cut-push most paths (path mode frames)) ∙ ap (cut most) (sym (paths_kept-append mode ticks seen)) in
+    ap (λ b. cond b (cut most paths ++ path mode frames ∷ []) (cut most paths)) room_paths ∙ sym (cut-push most paths (path mode frames)) ∙ ap (cut most) (sym (paths_kept-append mode ticks seen)) in
     let all_times : cond room (cut most times ++ tick.time ∷ []) (cut most times) ≡ cut most (times_of more) =
-        ap (λ b. cond b (cut most times ++ tick.time ∷ []) (cut most times)) room_times ∙ sym (cut-push most times tick.time)
-        ∙ ap (cut most) (sym (map-append (λ (t : ResolvedTick). t.time) ticks (seen ∷ []))) in
+    ap (λ b. cond b (cut most times ++ tick.time ∷ []) (cut most times)) room_times ∙ sym (cut-push most times tick.time)
+    ∙ ap (cut most) (sym (map-append (λ (t : ResolvedTick). t.time) ticks (seen ∷ []))) in
     record {
       tree = subst (IsTreeOf new.sampled.tree) (sym (map-append (visit_of mode) ticks (seen ∷ [])) ∙ ap (λ o. visits_of o.mode more) (sym k.options)) (k.tree (visits_of mode ticks) h.tree);
       samples = subst (AllZip (Names new.sampled.tree) new.sampled.samples) (all_paths ∙ ap (λ o. cut o.max_samples (paths_kept o.mode more)) (sym k.options)) (k.samples (cut most paths) h.samples);
@@ -85,7 +84,7 @@ kept_by : (base : ℕ) (session : Session) (begun : Begun) (tick : ResolvedTick)
 kept_by base session begun tick h =
     let rounded = rounded_of base begun.options.interval in
     let test : keeps session.counter.left tick.interval ≡ is_wanted rounded (since_after rounded None begun.ticks) tick =
-        keeps_wanted session.counter (since_after session.counter.rounded None begun.ticks) tick h.left ∙ ap (λ r. is_wanted r (since_after r None begun.ticks) tick) h.rounded in
+    keeps_wanted session.counter (since_after session.counter.rounded None begun.ticks) tick h.left ∙ ap (λ r. is_wanted r (since_after r None begun.ticks) tick) h.rounded in
     kept_since-append rounded None begun.ticks tick ∙ ap (λ b. kept base begun ++ cond b (tick ∷ []) []) (sym test)
 
 -- all but the kept ticks
@@ -117,7 +116,7 @@ counts_only tick paths old own drops base begun frames same h =
     let new : Session = record old { counter = counted old.counter tick.interval } in
     let seen : ResolvedTick = seen_tick tick frames in
     let ticks : kept base begun ≡ kept base (one_more seen begun) =
-        sym (append-nil (kept base begun)) ∙ ap (λ b. kept base begun ++ cond b (seen ∷ []) []) (sym drops) ∙ sym (kept_by base old begun seen h) in
+    sym (append-nil (kept base begun)) ∙ ap (λ b. kept base begun ++ cond b (seen ∷ []) []) (sym drops) ∙ sym (kept_by base old begun seen h) in
     subst (HasBegun base new) (sym (cond-true (is_for old.id.0 tick.only) (one_more seen begun) begun own))
     (counted_on base old new begun seen refl refl refl h (subst (HasKept new) ticks (recounted old new.counter (kept base begun) h.kept)))
 
@@ -127,9 +126,9 @@ keeps_too tick paths old new own keeps k base begun frames same h =
     let between : Session = record old { counter = counted old.counter tick.interval } in
     let seen : ResolvedTick = seen_tick tick frames in
     let ticks : kept base begun ++ seen ∷ [] ≡ kept base (one_more seen begun) =
-        ap (λ b. kept base begun ++ cond b (seen ∷ []) []) (sym keeps) ∙ sym (kept_by base old begun seen h) in
+    ap (λ b. kept base begun ++ cond b (seen ∷ []) []) (sym keeps) ∙ sym (kept_by base old begun seen h) in
     let over : Keeps tick (path old.options.mode frames) (leaf_line frames) between new =
-        subst (λ p. Keeps tick p (leaf_line frames) between new) (path_over old.options.mode frames) (subst (λ p. Keeps tick (path_in old.options.mode p) p.leaf_line between new) same k) in
+    subst (λ p. Keeps tick p (leaf_line frames) between new) (path_over old.options.mode frames) (subst (λ p. Keeps tick (path_in old.options.mode p) p.leaf_line between new) same k) in
     let all : HasKept new (kept base begun ++ seen ∷ []) = kept_one_more between new tick frames (kept base begun) over (recounted old between.counter (kept base begun) h.kept) in
     subst (HasBegun base new) (sym (cond-true (is_for old.id.0 tick.only) (one_more seen begun) begun own))
     (counted_on base old new begun seen k.options k.start k.counter h (subst (HasKept new) ticks all))

@@ -1,15 +1,14 @@
 -- What a book stands for, as it takes starts and ticks.
-use Rattle.std.proofs.Common.{◌≡◌, ◌≢◌, ℕ, ◌+◌, ◌<◌, ◌≤◌, List, [], ◌∷◌, ◌++◌, length, map, refl, sym, ap, ap₂, ◌∙◌, subst, inl, inr, arith, eq-eqb, true≢false}
-use Rattle.std.specs.Prelude.{Bool, true, false, cond, ◌==◌, nat_le, Option, Some, None, option_map}
+use Rattle.std.proofs.Common.{◌≡◌, ℕ, ◌+◌, List, [], ◌∷◌, ◌++◌, length, map, refl, sym, ap, ap₂, ◌∙◌, subst, inl, inr, arith, eq-eqb}
+use Rattle.std.specs.Prelude.{true, false, ◌==◌, nat_le, Option, Some, None, option_map}
 use Rattle.std.specs.List.{AllByRecursion, AllZip, Contains}
 use Rattle.std.specs.Ordering.{nat_cmp, is_lt, is_eq}
 use Rattle.std.proofs.lemmas.Bool.{cond-false, cond-true, cond_both}
 use Rattle.std.proofs.lemmas.Bool.Decides.{nat_tests}
 use Rattle.prof_base.specs.Ordered.{insert_sorted}
 use Rattle.prof_base.proofs.Ordered.{Has, contains_from_has}
-use Rattle.code_event.specs.FileLaws.{running_on}
 use Rattle.code_event.specs.Recording.{with_tick}
-use Rattle.code_event.specs.Seen.{Seen, started, stopped, finished, ticked}
+use Rattle.code_event.specs.Seen.{Seen, started, ticked}
 use Rattle.code_event.specs.declared.event.Options.{Options}
 use Rattle.code_event.specs.declared.path.PathPair.{PathPair}
 use Rattle.code_event.specs.declared.recording.Begun.{Begun}
@@ -17,7 +16,7 @@ use Rattle.code_event.specs.declared.seen.ResolvedFrame.{ResolvedFrame}
 use Rattle.code_event.specs.declared.tick.Tick.{Tick}
 use Rattle.prof_base.specs.declared.ids.SessionId.{SessionId}
 use Rattle.session_book.specs.Begun.{fresh, begun_next, begun_after}
-use Rattle.session_book.specs.Book.{BookParts, number_of, with_session, AllRecorded, StandsFor}
+use Rattle.session_book.specs.Book.{number_of, with_session, AllRecorded, StandsFor}
 use Rattle.session_book.specs.Session.{HasRecorded, HasBegun, TakesTick, paths_over, seen_tick}
 use Rattle.session_book.specs.declared.session.Session.{Session}
 use Rattle.session_book.proofs.Appended.{begun_behind-append, running_on-append}
@@ -65,8 +64,8 @@ ids_with session (other ∷ others) apart =
     cond_both (nat_le number other.id.0) (session ∷ other ∷ others) (other ∷ with_session session others) (λ l. map number_of l ≡ insert_sorted nat_cmp number (other.id.0 ∷ map number_of others))
     (λ le. sym (cond-true (is_lt (nat_cmp number other.id.0)) _ _ (lt_by number other.id.0 apart.0 le)))
     (λ above.
-      ap (λ l. other.id.0 ∷ l) (ids_with session others apart.1) ∙ sym (cond-false (is_eq (nat_cmp number other.id.0)) _ _ (not_eq_by number other.id.0 above))
-      ∙ sym (cond-false (is_lt (nat_cmp number other.id.0)) _ _ (not_lt_by number other.id.0 above)))
+    ap (λ l. other.id.0 ∷ l) (ids_with session others apart.1) ∙ sym (cond-false (is_eq (nat_cmp number other.id.0)) _ _ (not_eq_by number other.id.0 above))
+    ∙ sym (cond-false (is_lt (nat_cmp number other.id.0)) _ _ (not_lt_by number other.id.0 above)))
 
 -- a mark that changes nothing for a session
 pub recorded_still : (base : ℕ) (seen : List Seen) (next : Seen) (session : Session) → begun_next session.id.0 (begun_after session.id.0 seen) next ≡ begun_after session.id.0 seen
@@ -113,8 +112,7 @@ ticked_all base seen tick paths frames [] (n ∷ new) same takes ids all = absur
 ticked_all base seen tick paths frames (o ∷ old) [] same takes ids all = absurd takes
 ticked_all base seen tick paths frames (o ∷ old) (n ∷ new) same takes ids all =
     let number : n.id.0 ≡ o.id.0 = cc in
-    let rest : map number_of new ≡ map number_of old = cc in
-    (
+    let rest : map number_of new ≡ map number_of old = cc in (
       subst (HasRecorded base n)
           (sym (begun_behind-append o.id.0 None seen (ticked (seen_tick tick frames))) ∙ ap (λ k. begun_after k (seen ++ ticked (seen_tick tick frames) ∷ [])) (sym number))
           (recorded_tick base seen tick paths frames o n (begun_after o.id.0 seen) same takes.0 all.0),

@@ -1,6 +1,6 @@
 -- What a book stands for, as a session is stopped.
-use Rattle.std.proofs.Common.{◌≡◌, ℕ, ◌<◌, ◌≤◌, inl, inr, true≢false, List, [], ◌∷◌, ◌++◌, length, map, refl, sym, ap, ◌∙◌, subst, arith, eq-eqb, eqb-true}
-use Rattle.std.specs.Prelude.{Bool, true, false, cond, not, ◌==◌, Option, Some, None, option_map, find, filter}
+use Rattle.std.proofs.Common.{◌≡◌, ℕ, ◌≤◌, inl, inr, true≢false, List, [], ◌∷◌, ◌++◌, length, map, refl, sym, ap, ◌∙◌, subst, arith, eq-eqb, eqb-true}
+use Rattle.std.specs.Prelude.{Bool, true, false, cond, not, ◌==◌, Option, Some, None, option_map, find}
 use Rattle.std.specs.List.{AllByRecursion, Contains}
 use Rattle.std.specs.Ordering.{nat_cmp}
 use Rattle.std.specs.declared.cmp.Ordering.TheVariants.{Less}
@@ -10,10 +10,9 @@ use Rattle.prof_base.specs.Ordered.{AllAfter, Rises}
 use Rattle.prof_base.specs.declared.ids.SessionId.{SessionId}
 use Rattle.prof_base.proofs.Ordered.{Has, contains_from_has, has_from_contains}
 use Rattle.code_event.specs.DeoptReasons.{DeoptReasons}
-use Rattle.code_event.specs.FileLaws.{running_on}
 use Rattle.code_event.specs.ItemList.{without}
 use Rattle.code_event.specs.Profile.{profile_of, finished_of}
-use Rattle.code_event.specs.Recording.{Recording, recording, ended}
+use Rattle.code_event.specs.Recording.{Recording, ended}
 use Rattle.code_event.specs.RecordingLaws.{closes}
 use Rattle.code_event.specs.Seen.{Seen, stopped}
 use Rattle.code_event.specs.Subsample.{kept}
@@ -21,7 +20,7 @@ use Rattle.code_event.specs.declared.profile.Finished.{Finished}
 use Rattle.code_event.specs.declared.recording.Begun.{Begun}
 use Rattle.session_book.specs.Begun.{begun_after}
 use Rattle.session_book.specs.Book.{BookParts, IsBook, running, number_of, without_session, AllRecorded, StandsFor}
-use Rattle.session_book.specs.Session.{HasRecorded, HasBegun, IsProfile, without_reasons}
+use Rattle.session_book.specs.Session.{HasRecorded, IsProfile, without_reasons}
 use Rattle.session_book.specs.declared.session.Session.{Session}
 use Rattle.session_book.proofs.Appended.{running_on-append, recording_behind-stopped}
 use Rattle.session_book.proofs.OfBook.{running_is, running_by}

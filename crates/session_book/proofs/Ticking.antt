@@ -1,5 +1,5 @@
 -- Sessions that take a tick, one after the other.
-use Rattle.std.proofs.Common.{◌≡◌, ℕ, zero, suc, ◌+◌, ◌<◌, List, [], ◌∷◌, length, get_or, set, refl, sym, ap, subst, arith, add-one}
+use Rattle.std.proofs.Common.{◌≡◌, ℕ, zero, suc, ◌+◌, ◌<◌, List, [], ◌∷◌, length, get_or, set, sym, ap, subst, arith, add-one}
 use Rattle.std.specs.List.{AllZip}
 
 -- of the first elements, R holds with the new ones, and the others are the same

@@ -4,4 +4,3 @@ pub mod Sampled
 pub mod Session
 pub mod Book
 pub mod Refused
-

@@ -5,7 +5,7 @@ use Rattle.std.specs.List.{AllZip}
 use Rattle.prof_base.specs.Interval.{rounded_of}
 use Rattle.code_event.specs.DeoptReasons.{DeoptReasons}
 use Rattle.code_event.specs.Profile.{visits_of, cut, deltas, profile_of}
-use Rattle.code_event.specs.Recording.{Recording, with_tick}
+use Rattle.code_event.specs.Recording.{with_tick}
 use Rattle.code_event.specs.Subsample.{kept}
 use Rattle.code_event.specs.Symbolizer.{path, leaf_line}
 use Rattle.code_event.specs.declared.event.Mode.{Mode}

@@ -151,7 +151,10 @@ impl Book {
     {
         let mut source = 0u64;
         for session in &self.sessions {
-            source = gcd(source, u64::from(rounded(self.base, session.options.interval)));
+            source = gcd(
+                source,
+                u64::from(rounded(self.base, session.options.interval)),
+            );
         }
         source as u32
     }

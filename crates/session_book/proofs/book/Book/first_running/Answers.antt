@@ -1,4 +1,4 @@
-use Rattle.std.proofs.Common.{◌∙◌, map, sym, ap, subst}
+use Rattle.std.proofs.Common.{subst}
 use Rattle.std.specs.Ordering.{nat_cmp}
 use Rattle.prof_base.specs.Ordered.{Rises}
 use Rattle.session_book.proofs.OfBook.{running_is, first_is}

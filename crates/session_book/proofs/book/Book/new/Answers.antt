@@ -1,4 +1,4 @@
-use Rattle.std.proofs.Common.{◌≡◌, [], List, map, sym, ap, refl, subst}
+use Rattle.std.proofs.Common.{[], map, sym, ap, subst}
 use Rattle.session_book.specs.Book.{StandsFor, number_of, AllRecorded}
 use Rattle.session_book.proofs.book.Book.new.Goals as goal
 

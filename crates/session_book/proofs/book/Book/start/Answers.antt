@@ -1,4 +1,4 @@
-use Rattle.std.proofs.Common.{◌∙◌, sym, ap, arith}
+use Rattle.std.proofs.Common.{arith}
 use Rattle.session_book.proofs.OfBook.{is_running, not_running, count_running}
 use Rattle.session_book.proofs.book.Book.start.Goals as goal
 

@@ -5,7 +5,7 @@ use Rattle.code_event.specs.Seen.{Seen, ticked}
 use Rattle.code_event.specs.declared.seen.ResolvedFrame.{ResolvedFrame}
 use Rattle.session_book.specs.Book.{number_of, running, StandsFor}
 use Rattle.session_book.specs.Session.{TakesTick, paths_over, seen_tick}
-use Rattle.session_book.proofs.OfBook.{running_is, running_by, on_ok_ticked, written_back, same_count}
+use Rattle.session_book.proofs.OfBook.{on_ok_ticked, written_back, same_count}
 use Rattle.session_book.proofs.book.Book.tick.Goals as goal
 
 same_ids : (c : goal.After-self-1) → map number_of c.tick_each.new.sessions ≡ map number_of c.self.inside.sessions.items
