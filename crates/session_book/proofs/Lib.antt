@@ -1,0 +1,11 @@
+pub mod Appended
+pub mod Counting
+pub mod Samples
+pub mod Recorded
+pub mod Ending
+pub mod Places
+pub mod Ticking
+pub mod Standing
+pub mod OfBook
+pub mod Stopping
+pub mod Intervals
