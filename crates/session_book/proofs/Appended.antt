@@ -20,7 +20,8 @@ use Rattle.code_event.specs.Subsample.{is_due, kept_since}
 use Rattle.code_event.specs.declared.recording.Begun.{Begun}
 use Rattle.code_event.specs.declared.seen.ResolvedTick.{ResolvedTick}
 use Rattle.session_book.specs.Begun.{fresh, begun_next, begun_behind}
-use Rattle.session_book.specs.Counter.{is_wanted, since_next, since_after}
+use Rattle.session_book.specs.Counter.{since_next, since_after}
+use Rattle.session_book.proofs.Wanted.{is_wanted}
 use Rattle.session_book.specs.Session.{has_room, last_time}
 
 -- ---- marks

@@ -6,7 +6,8 @@ use Rattle.std.proofs.lemmas.Bool.Decides.{nat_tests}
 use Rattle.std.proofs.lemmas.List.Sums.{sum_by_push}
 use Rattle.code_event.specs.Subsample.{is_due}
 use Rattle.code_event.specs.declared.seen.ResolvedTick.{ResolvedTick}
-use Rattle.session_book.specs.Counter.{keeps, counted, is_wanted, since_next, IsLeft}
+use Rattle.session_book.specs.Counter.{keeps, counted, since_next, IsLeft}
+use Rattle.session_book.proofs.Wanted.{is_wanted}
 use Rattle.session_book.specs.declared.counter.Counter.{Counter}
 
 least : (left interval : ℕ) → left ≡ 0 → nat_le left interval ≡ true

@@ -1,3 +1,4 @@
+pub mod Wanted
 pub mod Appended
 pub mod Counting
 pub mod Samples

@@ -18,7 +18,8 @@ use Rattle.code_event.specs.declared.seen.ResolvedTick.{ResolvedTick}
 use Rattle.code_event.specs.declared.tick.Tick.{Tick}
 use Rattle.code_event.specs.declared.visit.Visit.{Visit}
 use Rattle.profile_tree.specs.Grown.{StandsFor as IsTreeOf, Names}
-use Rattle.session_book.specs.Counter.{keeps, counted, is_wanted, IsLeft, since_after}
+use Rattle.session_book.specs.Counter.{keeps, counted, IsLeft, since_after}
+use Rattle.session_book.proofs.Wanted.{is_wanted}
 use Rattle.session_book.specs.Session.{paths_over, seen_tick, path_in, has_room, last_time, paths_kept, times_of, HasKept, HasBegun, Keeps, TakesTick}
 use Rattle.session_book.specs.declared.session.Session.{Session}
 use Rattle.session_book.proofs.Appended.{since_after-append, kept_since-append, cut-push, length-cut_map, deltas-append, last_time-append}

@@ -15,10 +15,6 @@ counted counter interval =
     else if nat_le counter.left interval then record counter { left = counter.rounded }
     else record counter { left = counter.left - interval }
 
--- a tick is kept, by the ticks since the last that was kept with an interval above 0
-abbrev pub is_wanted : ℕ → Option (List ResolvedTick) → ResolvedTick → Bool
-is_wanted rounded since tick = (tick.interval == 0) || is_due rounded tick.interval since
-
 -- the ticks since then, after one more
 abbrev pub since_next : ℕ → Option (List ResolvedTick) → ResolvedTick → Option (List ResolvedTick)
 since_next rounded since tick =
