@@ -9,3 +9,4 @@ pub mod Standing
 pub mod OfBook
 pub mod Stopping
 pub mod Intervals
+pub mod OfCalls
