@@ -2,8 +2,7 @@
 use Rattle.std.proofs.Common.{◌≡◌, ℕ, List, [], ◌∷◌, ◌++◌, map, refl, sym, ap, ◌∙◌, subst, append_assoc, append-nil}
 use Rattle.std.specs.Prelude.{Bool, true, false, cond, ◌==◌, Option, Some, None, option_map, filter}
 use Rattle.std.specs.List.{AllZip}
-use Rattle.std.proofs.lemmas.Bool.{cond-false, cond-true}
-use Rattle.prof_base.specs.declared.ids.SessionId.{SessionId}
+use Rattle.std.proofs.lemmas.Bool.{cond-true}
 use Rattle.code_event.specs.Profile.{profile_of}
 use Rattle.code_event.specs.Recording.{Recording, is_for, with_tick, recording, recording_behind, ended}
 use Rattle.code_event.specs.Seen.{Seen, started, stopped, finished, ticked}

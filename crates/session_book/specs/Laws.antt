@@ -1,8 +1,6 @@
 -- What holds of books and sessions, whatever the calls.
 use Rattle.std.specs.Prelude.{◌≡◌, ℕ, List, [], ◌∷◌, ◌++◌, Bool, true, false, ◌==◌, Some, filter}
 use Rattle.std.specs.List.{AllByRecursion, AllZip}
-use Rattle.std.specs.Ordering.{nat_cmp}
-use Rattle.prof_base.specs.Ordered.{Rises}
 use Rattle.prof_base.specs.declared.ids.SessionId.{SessionId}
 use Rattle.code_event.specs.DeoptReasons.{DeoptReasons}
 use Rattle.code_event.specs.FileLaws.{running_on}
