@@ -10,3 +10,4 @@ pub mod Standing
 pub mod OfBook
 pub mod Stopping
 pub mod Intervals
+pub mod OfCalls

@@ -4,3 +4,4 @@ pub mod Sampled
 pub mod Session
 pub mod Book
 pub mod Refused
+pub mod Laws

@@ -4,6 +4,7 @@
 
 mod book;
 mod counter;
+pub mod laws;
 mod refused;
 mod sampled;
 mod session;
