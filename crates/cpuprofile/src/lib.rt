@@ -11,4 +11,4 @@ mod write;
 pub use convert::profile_of;
 pub use file_text::FileText;
 pub use profile::{FileNode, FileTicks, Profile};
-pub use write::write_profile;
+pub use write::{write_finished, write_profile};

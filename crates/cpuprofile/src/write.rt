@@ -4,13 +4,17 @@ ghost use Rattle.std.specs.Bool.{OnTrue};
 ghost use Rattle.std.specs.Fmt.{signed_decimal};
 ghost use Rattle.std.specs.List.{AllPass};
 ghost use Rattle.json.specs.Print.{quoted};
-ghost use Rattle.code_event.specs.FileText.{list_text, children_text, reason_text};
+ghost use Rattle.code_event.specs.FileText.{list_text, children_text, reason_text, file_text};
+ghost use Rattle.cpuprofile.specs.Converted.{file_profile};
+ghost use Rattle.cpuprofile.specs.Given.{DeltasFit};
 ghost use Rattle.cpuprofile.specs.ProfileText.{ticks_text, all_ticks_text, call_frame_text, node_text, profile_text, comma_before};
 ghost use Rattle.cpuprofile.specs.Valid.{IsValid};
 ghost use Rattle.cpuprofile.specs.Escapes.{needs_no_escape};
 
+use crate::convert::profile_of;
 use crate::file_text::FileText;
 use crate::profile::{FileNode, FileTicks, Profile};
+use code_event::Finished;
 use itoa::Buffer;
 use prof_base::{Memory, put_decimal};
 use serde_json::Value;
@@ -238,5 +242,17 @@ pub fn write_profile(alloc: Global, profile: &Profile) -> Result<Vec<u8>, Memory
 {
     let mut out = Vec::new(alloc);
     put_profile(alloc, &mut out, profile)?;
+    Ok(out)
+}
+
+/// Writes the text of the file that a finished profile becomes, as [`write_profile`] writes what
+/// [`profile_of`] makes of it.
+pub fn write_finished(alloc: Global, finished: &Finished) -> Result<Vec<u8>, Memory>
+    ensures profile { IfOk result (λ text. text.items ≡ profile_text (file_profile finished.now)) }
+    ensures text { IfOk result (λ text. DeltasFit finished.now → text.items ≡ file_text finished.now) }
+{
+    let profile = profile_of(alloc, finished)?;
+    let mut out = Vec::new(alloc);
+    put_profile(alloc, &mut out, &profile)?;
     Ok(out)
 }

@@ -17,7 +17,8 @@ use Rattle.record_text.specs.ScheduleParts.{ScheduleParts}
 use Rattle.prof_top.specs.Ending.{run_ending, status_of}
 use Rattle.prof_top.specs.Written.{IsWritten}
 use Rattle.prof_top.specs.declared.ending.Ending.{Ending}
-use Rattle.prof_top.specs.HandedOut.{Outlets, AddsParts, IsHandedOut}
+use Rattle.out_stream.specs.AddedParts.{AddsParts}
+use Rattle.prof_top.specs.HandedOut.{Outlets, IsHandedOut}
 use Rattle.prof_top.specs.PrintedText.{one_file, delivered_of, file_line, printed_text}
 use Rattle.prof_top.specs.Log.{IsWholeRun}
 use Rattle.prof_top.specs.RunSchedule.{IsDone}

@@ -1,10 +1,8 @@
 -- What comes out of a run: its files through the stream, and its text through `out`.
-use Rattle.std.specs.Prelude.{◌≡◌, ◌≢◌, ◌⊎◌, ℕ, List, [], ◌++◌, length, map, take, Option, IfSome, option_map}
-use Rattle.std.specs.Option.{option_map_or}
-use Rattle.std.specs.List.{slice_get}
+use Rattle.std.specs.Prelude.{◌≡◌, ◌≢◌, ◌⊎◌, ℕ, List, [], length, map, take, Option, IfSome}
 use Rattle.prof_base.specs.Causes.{Rose}
-use Rattle.prof_base.specs.Prefix.{IsPrefix}
 use Rattle.prof_outer.specs.Appends.{AppendsWhole}
+use Rattle.out_stream.specs.AddedParts.{AddsParts}
 use Rattle.out_stream.specs.Parts.{Parts}
 use Rattle.code_event.specs.ItemFile.{SessionFile}
 use Rattle.prof_top.specs.Written.{IsWritten}
@@ -21,15 +19,6 @@ pub record Outlets : Type 0 where
 abbrev pub outlets : Option Parts → ℕ → ℕ → Option (List ℕ) → ℕ → Outlets
 outlets parts aborts stream_faults written out_faults =
     record { parts = parts; aborts = aborts; stream_faults = stream_faults; written = written; out_faults = out_faults }
-
--- the text with this number, from 0, and no bytes where there is none
-abbrev pub text_at : List (List ℕ) → ℕ → List ℕ
-text_at texts number = option_map_or (λ text. text) (slice_get texts number) []
-
--- the first `number` texts were added, each as one part, and a prefix of the next is unfinished; after the last there is no next, and the unfinished part is empty
-abbrev pub AddsParts : List (List ℕ) → ℕ → Option Parts → Option Parts → Type 0
-AddsParts texts number before now =
-    (part : List ℕ) × IsPrefix part (text_at texts number) × (now ≡ option_map (λ parts. (parts.0 ++ take number texts, part)) before)
 
 -- The first of these files were delivered, and this text was printed of them. All were delivered where the stream neither aborted nor failed and there was memory, where the call ended well, and where only `out` failed.
 pub record IsHandedOut (files : List SessionFile) (text : List SessionFile → List ℕ) (status : ℕ) (before now : Outlets) : Type 0 where

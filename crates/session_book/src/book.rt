@@ -1,6 +1,6 @@
 // The book.
-ghost use Rattle.std.specs.Prelude.{◌≡◌, ◌≤◌, ◌++◌, [], ◌∷◌, List, Some, false, option_map, IfOk, IfErr, OnOk, OnErr};
-ghost use Rattle.std.specs.List.{AllByRecursion, Contains, slice_get};
+ghost use Rattle.std.specs.Prelude.{◌≡◌, ◌≤◌, ◌<◌, ◌^◌, ◌++◌, [], ◌∷◌, List, Some, false, option_map, IfOk, IfErr, OnOk, OnErr};
+ghost use Rattle.std.specs.List.{All, AllByRecursion, Contains, slice_get};
 ghost use Rattle.std.specs.Ordering.{nat_cmp};
 ghost use Rattle.prof_base.specs.Interval.{IsSourceInterval};
 ghost use Rattle.prof_base.specs.Ordered.{Rises, insert_sorted};
@@ -118,6 +118,7 @@ impl Book {
         ensures finished { IfOk result (λ finished. (seen : List Seen) (reasons : DeoptReasons) → StandsFor self.old seen
             → AllByRecursion (λ mark. closes id.0 mark ≡ false) seen
             → Some finished ≡ option_map without_reasons (finished_of self.old.base id (seen ++ stopped id time reasons ∷ []))) }
+        ensures few_hits { IfOk result (λ finished. All (λ node. node.hits < 2 ^ 53) finished.nodes) }
         ensures unchanged { IfErr result (λ refusal. refusal ≡ StopRefused.NoSession → self.new ≡ self.old) }
         ensures running { running self.new ≡ without id.0 (running self.old) }
         ensures ok { OnOk result (Contains (running self.old) id.0) }

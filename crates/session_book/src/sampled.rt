@@ -1,6 +1,6 @@
 // Trees with references to the nodes of samples.
-ghost use Rattle.std.specs.Prelude.{◌≡◌, [], ◌∷◌, ◌++◌, List, length, map, IfOk, OnOk, if◌then◌else◌};
-ghost use Rattle.std.specs.List.{AllZip};
+ghost use Rattle.std.specs.Prelude.{◌≡◌, ◌<◌, ◌^◌, [], ◌∷◌, ◌++◌, List, length, map, IfOk, OnOk, if◌then◌else◌};
+ghost use Rattle.std.specs.List.{All, AllZip};
 ghost use Rattle.code_event.specs.DeoptReasons.{no_reasons};
 ghost use Rattle.code_event.specs.Tree.{nodes, id_of, fin_nodes};
 ghost use Rattle.code_event.specs.declared.path.PathStep.{PathStep};
@@ -81,6 +81,7 @@ impl Sampled {
 
     /// Returns the nodes in the order of their paths, and the ids of the samples' nodes.
     pub(crate) fn finished(&self) -> Result<(Sequence<FinNode>, Sequence<u32>), Memory>
+        ensures few_hits { IfOk result (λ finished. All (λ node. node.hits < 2 ^ 53) finished.0) }
         ensures nodes { IfOk result (λ finished. (visits : List Visit) → IsTreeOf self.now.tree visits
             → finished.0 ≡ fin_nodes visits no_reasons) }
         ensures samples { IfOk result (λ finished. (visits : List Visit) (paths : List (List PathStep)) → IsTreeOf self.now.tree visits

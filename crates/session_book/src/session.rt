@@ -1,6 +1,6 @@
 // Running sessions.
-ghost use Rattle.std.specs.Prelude.{◌≡◌, ◌≤◌, ◌-◌, ◌++◌, [], ◌∷◌, ℕ, List, length, IfOk, OnOk, if◌then◌else◌};
-ghost use Rattle.std.specs.List.{AllZip};
+ghost use Rattle.std.specs.Prelude.{◌≡◌, ◌≤◌, ◌<◌, ◌-◌, ◌^◌, ◌++◌, [], ◌∷◌, ℕ, List, length, IfOk, OnOk, if◌then◌else◌};
+ghost use Rattle.std.specs.List.{All, AllZip};
 ghost use Rattle.prof_base.specs.declared.interval.TheConstants.{MAX_INTERVAL};
 ghost use Rattle.code_event.specs.Recording.{is_for};
 ghost use Rattle.session_book.specs.Begun.{fresh};
@@ -117,7 +117,8 @@ impl Session {
 
     /// Ends the session.
     pub(crate) fn finished(self, end: Micros) -> Result<Finished, Memory>
-        ensures { IfOk result (IsProfile self end) }
+        ensures profile { IfOk result (IsProfile self end) }
+        ensures few_hits { IfOk result (λ finished. All (λ node. node.hits < 2 ^ 53) finished.nodes) }
     {
         let (nodes, samples) = self.sampled.finished()?;
         Ok(Finished {

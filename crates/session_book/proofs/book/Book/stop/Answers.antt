@@ -30,7 +30,7 @@ returns-clause-stands c =
 
 pub returns-clause-finished : goal.returns-clause-finished
 returns-clause-finished c =
-    profile_of_book c.args.self.now c.self.inside.base c.self.inside.sessions.items c.in-Some.session c.args.id c.args.time c.in-Ok.finished c.self.view_is c.in-Some.ensures.taken c.in-Ok.ensures
+    profile_of_book c.args.self.now c.self.inside.base c.self.inside.sessions.items c.in-Some.session c.args.id c.args.time c.in-Ok.finished c.self.view_is c.in-Some.ensures.taken c.in-Ok.ensures.profile
 
 pub returns-clause-running : goal.returns-clause-running
 returns-clause-running c =
