@@ -1,0 +1,2 @@
+pub mod Attribution
+pub mod ItemLaws

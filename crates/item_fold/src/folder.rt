@@ -1,0 +1,247 @@
+// A fold, item by item.
+ghost use Rattle.std.specs.Prelude.{◌≡◌, ◌<◌, ◌≤◌, ◌++◌, ◌∷◌, [], ℕ, List, Option, Ok, true, false, length, IsErrOf};
+ghost use Rattle.prof_base.specs.Causes.{Rose};
+ghost use Rattle.prof_base.specs.declared.interval.TheConstants.{MAX_INTERVAL};
+ghost use Rattle.attribution.specs.Attribution.{ChangesCode, StandsFor, running_in};
+ghost use Rattle.code_event.specs.ItemFile.{SessionFile, item_files};
+ghost use Rattle.code_event.specs.ItemList.{IsLegalItems, without};
+ghost use Rattle.code_event.specs.declared.event.CodeEvent.TheVariants.{Start, Finish};
+ghost use Rattle.code_event.specs.declared.tick.Item.TheVariants as item;
+ghost use Rattle.out_stream.specs.Parts.{Parts};
+ghost use Rattle.item_fold.specs.Delivered.{Delivers};
+ghost use Rattle.item_fold.specs.Folding.{Folds, FoldsEvent, FoldsStop, HasFolded};
+
+use attribution::Attributor;
+use code_event::{CodeEvent, Item, Options, Tick};
+use out_stream::{OutputStream, Undelivered};
+use prof_base::{MAX_INTERVAL, Memory, Micros, Sequence, SessionId};
+use session_book::{StartRefused, StopRefused};
+use std::alloc::Global;
+use std::marker::Model;
+
+/// The note of a file that was delivered: its session, and its length in bytes.
+#[derive(Clone, Copy, Debug, PartialEq, Eq)]
+pub struct FileNote {
+    pub session: SessionId,
+    pub length: u64,
+}
+
+/// What has been attributed and delivered so far.
+#[derive(Drop)]
+pub(crate) struct Folder {
+    alloc: Global,
+    attributor: Attributor,
+    notes: Sequence<FileNote>,
+}
+
+impl Model for Folder {
+    ghost use Rattle.item_fold.specs.Folding.{FolderParts};
+
+    ghost Value = { FolderParts };
+
+    ghost view = { λ f. record { attributor = f.attributor; notes = f.notes } };
+}
+
+impl Folder {
+    /// Makes the fold before any item.
+    pub(crate) fn new(alloc: Global, base: u32) -> Folder
+        requires low { 1 ≤ base }
+        requires high { base ≤ MAX_INTERVAL }
+        ensures { (before : Option Parts) → HasFolded base [] (Ok tt) result before before }
+    {
+        Folder {
+            alloc,
+            attributor: Attributor::new(alloc, base),
+            notes: Sequence::new(alloc),
+        }
+    }
+
+    // Delivers the file of a session, and notes it.
+    fn deliver<S: OutputStream>(
+        &mut self,
+        session: SessionId,
+        file: &[u8],
+        stream: &mut S,
+    ) -> Result<(), Undelivered>
+        requires some { 0 < length file.now }
+        ensures attributor { self.new.attributor ≡ self.old.attributor }
+        ensures delivers { (files : List SessionFile) (before : Option Parts) → Delivers files (Ok tt) self.old.notes before (S.parts stream.old)
+            → Delivers (files ++ record { session = session.0; text = file.now } ∷ []) result self.new.notes before (S.parts stream.new) }
+
+        // Each abort and each fault is counted. The size of chunks stays the same, and no count falls.
+        ensures aborted { IsErrOf result Undelivered.Aborted → Rose (S.aborts stream.old) (S.aborts stream.new) }
+        ensures failed { IsErrOf result Undelivered.Failed → Rose (S.stream_faults stream.old) (S.stream_faults stream.new) }
+        ensures chunk_size { S.chunk_bytes stream.new ≡ S.chunk_bytes stream.old }
+        ensures aborts { S.aborts stream.old ≤ S.aborts stream.new }
+        ensures faults { S.stream_faults stream.old ≤ S.stream_faults stream.new }
+    {
+        stream.deliver_part(self.alloc, file)?;
+        let length = file.len() as u64;
+        match self.notes.push(FileNote { session, length }) {
+            Ok(()) => Ok(()),
+            Err(Memory) => Err(Undelivered::Memory),
+        }
+    }
+
+    // Ends a session: delivers its file.
+    fn end<S: OutputStream>(
+        &mut self,
+        session: SessionId,
+        time: Micros,
+        stream: &mut S,
+    ) -> Result<(), Undelivered>
+        ensures running { running_in self.new.attributor ≡ without session.0 (running_in self.old.attributor) }
+        ensures folds { FoldsStop self.old (S.parts stream.old) session time result self.new (S.parts stream.new) }
+
+        // Each abort and each fault is counted. The size of chunks stays the same, and no count falls.
+        ensures aborted { IsErrOf result Undelivered.Aborted → Rose (S.aborts stream.old) (S.aborts stream.new) }
+        ensures failed { IsErrOf result Undelivered.Failed → Rose (S.stream_faults stream.old) (S.stream_faults stream.new) }
+        ensures chunk_size { S.chunk_bytes stream.new ≡ S.chunk_bytes stream.old }
+        ensures aborts { S.aborts stream.old ≤ S.aborts stream.new }
+        ensures faults { S.stream_faults stream.old ≤ S.stream_faults stream.new }
+    {
+        match self.attributor.stop(session, time) {
+            Ok(file) => self.deliver(session, &file, stream),
+            Err(StopRefused::NoSession) => Ok(()),
+            Err(StopRefused::Memory) => Err(Undelivered::Memory),
+        }
+    }
+
+    // Ends the running sessions, in the order of their ids.
+    fn end_all<S: OutputStream>(
+        &mut self,
+        time: Micros,
+        stream: &mut S,
+    ) -> Result<(), Undelivered>
+        ensures folds { FoldsEvent self.old (S.parts stream.old) (Finish time true) result self.new (S.parts stream.new) }
+
+        // Each abort and each fault is counted. The size of chunks stays the same, and no count falls.
+        ensures aborted { IsErrOf result Undelivered.Aborted → Rose (S.aborts stream.old) (S.aborts stream.new) }
+        ensures failed { IsErrOf result Undelivered.Failed → Rose (S.stream_faults stream.old) (S.stream_faults stream.new) }
+        ensures chunk_size { S.chunk_bytes stream.new ≡ S.chunk_bytes stream.old }
+        ensures aborts { S.aborts stream.old ≤ S.aborts stream.new }
+        ensures faults { S.stream_faults stream.old ≤ S.stream_faults stream.new }
+    {
+        while let Some(session) = self.attributor.first_running() {
+            self.end(session, time, stream)?;
+        }
+        Ok(())
+    }
+
+    // Takes a start of a session.
+    fn start(
+        &mut self,
+        session: SessionId,
+        options: Options,
+        time: Micros,
+    ) -> Result<(), Undelivered>
+        ensures folds { (parts : Option Parts) → FoldsEvent self.old parts (Start session options time) result self.new parts }
+        ensures memory { (IsErrOf result Undelivered.Aborted → ⊥) × (IsErrOf result Undelivered.Failed → ⊥) }
+    {
+        match self.attributor.start(session, options, time) {
+            Err(StartRefused::Memory) => Err(Undelivered::Memory),
+            Ok(()) | Err(StartRefused::TooMany | StartRefused::Already) => Ok(()),
+        }
+    }
+
+    // Takes an event that changes the code.
+    fn change(&mut self, event: &CodeEvent) -> Result<(), Undelivered>
+        requires { ChangesCode event.now }
+        ensures folds { (parts : Option Parts) → FoldsEvent self.old parts event.now result self.new parts }
+        ensures memory { (IsErrOf result Undelivered.Aborted → ⊥) × (IsErrOf result Undelivered.Failed → ⊥) }
+    {
+        match self.attributor.change(event) {
+            Ok(()) => Ok(()),
+            Err(Memory) => Err(Undelivered::Memory),
+        }
+    }
+
+    // Takes a tick.
+    fn tick(&mut self, tick: &Tick) -> Result<(), Undelivered>
+        ensures folds { (parts : Option Parts) → Folds self.old parts (item.Tick tick.now) result self.new parts }
+        ensures memory { (IsErrOf result Undelivered.Aborted → ⊥) × (IsErrOf result Undelivered.Failed → ⊥) }
+    {
+        match self.attributor.tick(tick) {
+            Ok(()) => Ok(()),
+            Err(Memory) => Err(Undelivered::Memory),
+        }
+    }
+
+    // Takes an event.
+    fn event<S: OutputStream>(
+        &mut self,
+        event: &CodeEvent,
+        stream: &mut S,
+    ) -> Result<(), Undelivered>
+        ensures folds { FoldsEvent self.old (S.parts stream.old) event.now result self.new (S.parts stream.new) }
+
+        // Each abort and each fault is counted. The size of chunks stays the same, and no count falls.
+        ensures aborted { IsErrOf result Undelivered.Aborted → Rose (S.aborts stream.old) (S.aborts stream.new) }
+        ensures failed { IsErrOf result Undelivered.Failed → Rose (S.stream_faults stream.old) (S.stream_faults stream.new) }
+        ensures chunk_size { S.chunk_bytes stream.new ≡ S.chunk_bytes stream.old }
+        ensures aborts { S.aborts stream.old ≤ S.aborts stream.new }
+        ensures faults { S.stream_faults stream.old ≤ S.stream_faults stream.new }
+    {
+        match event {
+            CodeEvent::Start {
+                session,
+                options,
+                time,
+            } => self.start(*session, *options, *time),
+            CodeEvent::Stop { session, time } => self.end(*session, *time, stream),
+            CodeEvent::Finish { time, files: true } => self.end_all(*time, stream),
+            CodeEvent::Finish { files: false, .. } => Ok(()),
+            CodeEvent::Create { .. }
+            | CodeEvent::Move { .. }
+            | CodeEvent::NoOpt { .. }
+            | CodeEvent::Deopt { .. }
+            | CodeEvent::Delete { .. } => self.change(event),
+        }
+    }
+
+    // Takes an item.
+    fn take<S: OutputStream>(&mut self, item: &Item, stream: &mut S) -> Result<(), Undelivered>
+        ensures folds { Folds self.old (S.parts stream.old) item.now result self.new (S.parts stream.new) }
+
+        // Each abort and each fault is counted. The size of chunks stays the same, and no count falls.
+        ensures aborted { IsErrOf result Undelivered.Aborted → Rose (S.aborts stream.old) (S.aborts stream.new) }
+        ensures failed { IsErrOf result Undelivered.Failed → Rose (S.stream_faults stream.old) (S.stream_faults stream.new) }
+        ensures chunk_size { S.chunk_bytes stream.new ≡ S.chunk_bytes stream.old }
+        ensures aborts { S.aborts stream.old ≤ S.aborts stream.new }
+        ensures faults { S.stream_faults stream.old ≤ S.stream_faults stream.new }
+    {
+        match item {
+            Item::Event(record) => self.event(&record.event, stream),
+            Item::Tick(tick) => self.tick(tick),
+        }
+    }
+
+    /// Takes all items of a list, up to the first that something goes wrong with.
+    pub(crate) fn take_all<S: OutputStream>(
+        &mut self,
+        items: &[Item],
+        stream: &mut S,
+    ) -> Result<(), Undelivered>
+        ensures delivers { (base : ℕ) (before : Option Parts) → IsLegalItems items.now → HasFolded base [] (Ok tt) self.old before (S.parts stream.old)
+            → Delivers (item_files base items.now) result self.new.notes before (S.parts stream.new) }
+
+        // Each abort and each fault is counted. The size of chunks stays the same, and no count falls.
+        ensures aborted { IsErrOf result Undelivered.Aborted → Rose (S.aborts stream.old) (S.aborts stream.new) }
+        ensures failed { IsErrOf result Undelivered.Failed → Rose (S.stream_faults stream.old) (S.stream_faults stream.new) }
+        ensures chunk_size { S.chunk_bytes stream.new ≡ S.chunk_bytes stream.old }
+        ensures aborts { S.aborts stream.old ≤ S.aborts stream.new }
+        ensures faults { S.stream_faults stream.old ≤ S.stream_faults stream.new }
+    {
+        for item in items {
+            self.take(item, stream)?;
+        }
+        Ok(())
+    }
+
+    /// Returns the notes of the delivered files, in order.
+    pub(crate) fn into_notes(self) -> Sequence<FileNote>
+        ensures { result ≡ self.notes }
+    {
+        self.notes
+    }
+}
