@@ -2,7 +2,9 @@
 use Rattle.std.proofs.Common.{◌≡◌, ◌≢◌, ℕ, ◌==◌, List, [], ◌∷◌, ◌++◌, length, map, refl, sym, ap, subst, ◌∙◌, inl, inr, append-nil, append_assoc, arith}
 use Rattle.std.proofs.lemmas.Bool.Decides.{nat_tests}
 use Rattle.std.proofs.lemmas.List.{map-append}
-use Rattle.std.specs.Prelude.{Option, Some, None, Result, Ok, Err, true, false, Less}
+use Rattle.std.proofs.lemmas.Cmp.{nat_cmp_total, tied_itself}
+use Rattle.std.proofs.Common.{Less, Equal}
+use Rattle.std.specs.Prelude.{Option, Some, None, Result, Ok, Err, true, false}
 use Rattle.std.specs.List.{AllByRecursion}
 use Rattle.std.specs.Ordering.{nat_cmp}
 use Rattle.prof_base.proofs.Ordered.{Has, has_from_contains, contains_from_has}
@@ -19,7 +21,7 @@ use Rattle.code_event.proofs.FilesGrow.{files_grow, open_seen}
 use Rattle.code_event.proofs.SeenMore.{seen_more}
 use Rattle.code_event.specs.CodeMap.{ranges}
 use Rattle.code_event.specs.DeoptReasons.{DeoptReasons, no_reasons, reasons}
-use Rattle.code_event.specs.FileLaws.{IsOpenEvent, IsOpenItem, running_on, running_after}
+use Rattle.code_event.specs.FileLaws.{IsOpenItem, running_on, running_after}
 use Rattle.code_event.specs.ItemFile.{SessionFile, session, item_files, files_of, files, ends_behind}
 use Rattle.code_event.specs.ItemList.{IsLegalItems, without}
 use Rattle.code_event.specs.MomentLaws.{events_of}
@@ -34,6 +36,7 @@ use Rattle.out_stream.specs.declared.stream.Undelivered.TheVariants.{Memory}
 use Rattle.item_fold.specs.Delivered.{Delivers}
 use Rattle.item_fold.specs.Folding.{FolderParts, HasFolded, FoldsEvent, FoldsStop}
 use Rattle.item_fold.proofs.Delivering.{delivers_more, delivers_same}
+use Rattle.item_fold.proofs.Taking.{not_open}
 
 -- These sessions have been stopped, and the others of those that ran still run.
 pub record HasEnded (base : ℕ) (items : List Item) (time : ℕ) (now : FolderParts) (before parts : Option Parts) : Type 0 where
@@ -42,7 +45,7 @@ pub record HasEnded (base : ℕ) (items : List Item) (time : ℕ) (now : FolderP
   pub folded : HasFolded base (items ++ stops_at time done) (Ok tt) now before parts
 
 -- since then, at the finish of whatever list
-pub IsEnding : FolderParts → Option Parts → ℕ → FolderParts → Option Parts → Type 0
+abbrev pub IsEnding : FolderParts → Option Parts → ℕ → FolderParts → Option Parts → Type 0
 IsEnding old parts time now parts' =
     (base : ℕ) (items : List Item) (e : EventRecord) (before : Option Parts) → IsLegalItems (items ++ item.Event e ∷ []) → e.event ≡ Finish time true
     → HasFolded base items (Ok tt) old before parts → HasEnded base items time now before parts'
@@ -112,16 +115,19 @@ one_ended old now new parts at parts' time s rest answer runs folds ending base 
           (folds base sofar here before refl unfinished (has_not_ended items e time ended.done s.0 legal first) (contains_from_has (running_after sofar) s.0 first) ended.folded),
     )
 
+less_equal : Less ≡ Equal → ⊥
+less_equal e = absurd (cc e)
+
+never_less : (n : ℕ) → nat_cmp n n ≡ Less → ⊥
+never_less n e = absurd (less_equal (sym e ∙ tied_itself nat_cmp_total n))
+
+not_after : (n : ℕ) (ns : List ℕ) → AllAfter nat_cmp n ns → ¬ Has ns n
+not_after n [] after h = h
+not_after n (m ∷ ns) after (inl same) = never_less n (subst (λ k. nat_cmp n k ≡ Less) same after.0)
+not_after n (m ∷ ns) after (inr old) = not_after n ns after.1 old
+
 rises_out : (number : ℕ) (rest : List ℕ) → Rises nat_cmp (number ∷ rest) → ¬ Has rest number
 rises_out number rest rises h = not_after number rest rises.0 h
-  where
-    not_after : (n : ℕ) (ns : List ℕ) → AllAfter nat_cmp n ns → ¬ Has ns n
-    not_after n [] after h = h
-    not_after n (m ∷ ns) after (inl same) = absurd (never_less n (subst (λ k. nat_cmp n k ≡ Less) same after.0))
-    not_after n (m ∷ ns) after (inr old) = not_after n ns after.1 old
-
-    never_less : (n : ℕ) → nat_cmp n n ≡ Less → ⊥
-    never_less n e = absurd (cc e)
 
 pub ending_goes_on : (old now new : FolderParts) (parts at parts' : Option Parts) (time : ℕ) (s : SessionId) (rest : List ℕ)
     → running_in now.attributor ≡ s.0 ∷ rest → Rises nat_cmp (running_in now.attributor) → running_in new.attributor ≡ without s.0 (running_in now.attributor)
@@ -140,10 +146,6 @@ ending_goes_on old now new parts at parts' time s rest runs rises left folds end
 finish_files : (base : ℕ) (items : List Item) (e : EventRecord) (time : ℕ) (all : List ℕ) → IsLegalItems (items ++ item.Event e ∷ []) → e.event ≡ Finish time true → running_after items ≡ all
     → item_files base (items ++ item.Event e ∷ []) ≡ item_files base (items ++ stops_at time all)
 finish_files base items e time all legal is same = finishes_are_stops base items e time legal is ∙ ap (λ (ns : List ℕ). item_files base (items ++ stops_at time ns)) same
-
-not_open : (items : List Item) (e : EventRecord) (time : ℕ) → e.event ≡ Finish time true → AllByRecursion IsOpenItem (items ++ item.Event e ∷ []) → ⊥
-not_open [] e time is open = subst (λ event. IsOpenEvent event) is open.0
-not_open (first ∷ items) e time is open = not_open items e time is open.1
 
 -- something went wrong at the next session that runs
 pub ending_stops : (old now new : FolderParts) (parts at parts' : Option Parts) (time : ℕ) (s : SessionId) (rest : List ℕ) (fault : Undelivered)
@@ -164,7 +166,7 @@ ending_stops old now new parts at parts' time s rest fault runs folds ending e i
       base_is = one.2.base_is;
       delivers = subst (λ (fs : List SessionFile). Delivers fs (Err fault) new.notes before parts') (sym whole)
           (delivers_more (item_files base sofar) added.0 (Err fault) (Err fault) new.notes new.notes before parts' (λ e. absurd (cc e)) (λ room. (room, refl)) one.2.delivers);
-      stands = λ e open. absurd (cc e);
+      stands = λ e opened. absurd (cc e);
     }
 
 -- all that ran were ended
@@ -178,5 +180,17 @@ ending_ends old now parts at time none ending e is base items more before legal 
       base_is = ended.folded.base_is;
       delivers = delivers_same (item_files base (items ++ stops_at time ended.done)) (item_files base (items ++ item.Event e ∷ [])) (Ok tt) now.notes before at
           (finish_files base items e time ended.done alone is all) ended.folded.delivers;
-      stands = λ ok open. absurd (not_open items e time is open);
+      stands = λ ok opened. absurd (not_open items e time true is opened);
     }
+
+-- something went wrong at an item, where others may follow: if it is a finish, none does
+pub files_so_far : (base : ℕ) (items rest : List Item) (next : Item) (all : List Item) (fault : Undelivered) (new : FolderParts) (before parts : Option Parts) → all ≡ items ++ next ∷ rest → IsLegalItems all
+    → HasFolded base (items ++ next ∷ []) (Err fault) new before parts → Delivers (item_files base all) (Err fault) new.notes before parts
+files_so_far base items [] next all fault new before parts split legal h = subst (λ (l : List Item). Delivers (item_files base l) (Err fault) new.notes before parts) (sym split) h.delivers
+files_so_far base items (after ∷ rest) next all fault new before parts split legal h =
+    let so_far : List Item = items ++ next ∷ [] in
+    let parted : all ≡ so_far ++ after ∷ rest = split ∙ sym (append_assoc items (next ∷ []) (after ∷ rest)) in
+    let unfinished = nothing_follows_a_finish so_far rest after (subst IsLegalItems parted legal) in
+    let added = files_more base so_far (after ∷ rest) unfinished in
+    subst (λ (fs : List SessionFile). Delivers fs (Err fault) new.notes before parts) (sym (ap (item_files base) parted ∙ added.1))
+    (delivers_more (item_files base so_far) added.0 (Err fault) (Err fault) new.notes new.notes before parts (λ e. absurd (cc e)) (λ room. (room, refl)) h.delivers)

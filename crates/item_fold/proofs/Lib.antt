@@ -1,3 +1,3 @@
 pub mod Delivering
-pub mod Folded
+pub mod Taking
 pub mod Ending

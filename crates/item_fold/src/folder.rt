@@ -75,7 +75,9 @@ impl Folder {
         ensures aborts { S.aborts stream.old ≤ S.aborts stream.new }
         ensures faults { S.stream_faults stream.old ≤ S.stream_faults stream.new }
     {
-        stream.deliver_part(self.alloc, file)?;
+        if let Err(fault) = stream.deliver_part(self.alloc, file) {
+            return Err(fault);
+        }
         let length = file.len() as u64;
         match self.notes.push(FileNote { session, length }) {
             Ok(()) => Ok(()),
@@ -123,9 +125,34 @@ impl Folder {
         ensures faults { S.stream_faults stream.old ≤ S.stream_faults stream.new }
     {
         while let Some(session) = self.attributor.first_running() {
-            self.end(session, time, stream)?;
+            if let Err(fault) = self.end(session, time, stream) {
+                return Err(fault);
+            }
         }
         Ok(())
+    }
+
+    // Takes a finish: ends the running sessions where it asks for files.
+    fn finish<S: OutputStream>(
+        &mut self,
+        time: Micros,
+        files: bool,
+        stream: &mut S,
+    ) -> Result<(), Undelivered>
+        ensures folds { FoldsEvent self.old (S.parts stream.old) (Finish time files) result self.new (S.parts stream.new) }
+
+        // Each abort and each fault is counted. The size of chunks stays the same, and no count falls.
+        ensures aborted { IsErrOf result Undelivered.Aborted → Rose (S.aborts stream.old) (S.aborts stream.new) }
+        ensures failed { IsErrOf result Undelivered.Failed → Rose (S.stream_faults stream.old) (S.stream_faults stream.new) }
+        ensures chunk_size { S.chunk_bytes stream.new ≡ S.chunk_bytes stream.old }
+        ensures aborts { S.aborts stream.old ≤ S.aborts stream.new }
+        ensures faults { S.stream_faults stream.old ≤ S.stream_faults stream.new }
+    {
+        if files {
+            self.end_all(time, stream)
+        } else {
+            Ok(())
+        }
     }
 
     // Takes a start of a session.
@@ -138,9 +165,12 @@ impl Folder {
         ensures folds { (parts : Option Parts) → FoldsEvent self.old parts (Start session options time) result self.new parts }
         ensures memory { (IsErrOf result Undelivered.Aborted → ⊥) × (IsErrOf result Undelivered.Failed → ⊥) }
     {
+        // No other start is refused in a legal list.
         match self.attributor.start(session, options, time) {
+            Ok(()) => Ok(()),
             Err(StartRefused::Memory) => Err(Undelivered::Memory),
-            Ok(()) | Err(StartRefused::TooMany | StartRefused::Already) => Ok(()),
+            Err(StartRefused::TooMany) => Ok(()),
+            Err(StartRefused::Already) => Ok(()),
         }
     }
 
@@ -189,8 +219,7 @@ impl Folder {
                 time,
             } => self.start(*session, *options, *time),
             CodeEvent::Stop { session, time } => self.end(*session, *time, stream),
-            CodeEvent::Finish { time, files: true } => self.end_all(*time, stream),
-            CodeEvent::Finish { files: false, .. } => Ok(()),
+            CodeEvent::Finish { time, files } => self.finish(*time, *files, stream),
             CodeEvent::Create { .. }
             | CodeEvent::Move { .. }
             | CodeEvent::NoOpt { .. }
@@ -233,7 +262,9 @@ impl Folder {
         ensures faults { S.stream_faults stream.old ≤ S.stream_faults stream.new }
     {
         for item in items {
-            self.take(item, stream)?;
+            if let Err(fault) = self.take(item, stream) {
+                return Err(fault);
+            }
         }
         Ok(())
     }
