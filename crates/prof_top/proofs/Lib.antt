@@ -4,6 +4,9 @@ mod RunSchedules
 mod Returned
 mod Straight
 mod SeenRuns
+mod FinishedProfiles
+mod Paths
+mod Starting
 mod Logs
 mod Handed
 mod Saying

@@ -1,24 +1,24 @@
 -- What is seen of a run in which no code is given up and one session samples at its own interval.
-use Rattle.std.proofs.Common.{◌≡◌, ℕ, zero, suc, ◌+◌, ◌-◌, ◌*◌, ◌≤◌, List, [], ◌∷◌, ◌++◌, refl, ap, sym, subst, ◌∙◌, min, max, ◌/◌, ◌%◌, arith}
+use Rattle.std.proofs.Common.{◌≡◌, ℕ, zero, suc, ◌+◌, ◌-◌, ◌*◌, ◌<◌, ◌≤◌, List, [], ◌∷◌, ◌++◌, refl, ap, sym, subst, ◌∙◌, min, max, ◌/◌, ◌%◌, arith}
 use Rattle.std.proofs.lemmas.Bool.{cond_both}
 use Rattle.std.proofs.lemmas.List.{append_assoc, append-nil}
 use Rattle.std.proofs.lemmas.Nat.Gcd.{dvd_antisymm, dvd_refl, dvd-zero}
 use Rattle.std.proofs.Math.Nat.{div_self, mod_self}
-use Rattle.std.specs.Prelude.{Bool, true, false, Some, None, is_some, map, if◌then◌else◌}
+use Rattle.std.specs.Prelude.{Bool, true, false, Some, None, map, if◌then◌else◌}
 use Rattle.std.specs.List.{AllByRecursion}
 use Rattle.guest_text.specs.declared.instr.Func.{Func}
 use Rattle.code_event.proofs.EachElement.{all_pushed}
 use Rattle.code_event.specs.CodeMap.{same_entry}
 use Rattle.code_event.specs.DeoptReasons.{DeoptReasons, no_reasons}
+use Rattle.code_event.specs.FileLaws.{running_on}
 use Rattle.code_event.specs.ItemFile.{session, ends, ends_behind}
-use Rattle.code_event.specs.Recording.{recording, recording_behind, with_tick}
+use Rattle.code_event.specs.RecordingLaws.{closes}
 use Rattle.code_event.specs.Seen.{Seen, started, stopped, finished, ticked}
 use Rattle.code_event.specs.declared.entry.Entry.{Entry}
 use Rattle.code_event.specs.declared.event.Options.{Options}
-use Rattle.code_event.specs.declared.recording.Begun.{Begun}
-use Rattle.code_event.specs.declared.seen.ResolvedTick.{ResolvedTick}
+use Rattle.cpuprofile.specs.Given.{HasExactTime}
 use Rattle.guest_machine.specs.PlainMachine.{plain, deopts, plain_code}
-use Rattle.guest_machine.specs.PlainFrames.{func_entry, reason_in, reasons_of, plain_frames}
+use Rattle.guest_machine.specs.PlainFrames.{func_entry, reason_in, reasons_of}
 use Rattle.isolate.specs.PlainFile.{tick_at, given_up, given_up_for, seen_of, seen_behind}
 use Rattle.prof_base.specs.Interval.{rounded_of}
 use Rattle.record_text.specs.Schedule.{Course, Running, none_yet, course_after, course_on}
@@ -102,38 +102,45 @@ no_reason (func ∷ funcs) entry =
 pub no_reasons_given : (funcs : List Func) (index : ℕ) (registers : List ℕ) (halted : Bool) → reasons_of funcs (straight_state funcs index registers halted) ≡ no_reasons
 no_reasons_given funcs index registers halted = λ i (entry : Entry). no_reason funcs entry i
 
+-- what holds of the tick of a sample at each step holds of the ticks before a step
+each_tick : (P : Seen → Type 0) (funcs : List Func) (every step : ℕ) → ((at : ℕ) → at < step → P (tick_at funcs at at every true None)) → AllByRecursion P (ticks_before funcs every step)
+each_tick P funcs every zero each = tt
+each_tick P funcs every (suc step) each =
+    let before = ticks_before funcs every step in
+    let all = each_tick P funcs every step (λ at below. each at (omega arith)) in
+    cond_both (is_asked every step) (tick_at funcs step step every true None ∷ []) [] (λ more. AllByRecursion P (before ++ more))
+    (λ asked. all_pushed P before (tick_at funcs step step every true None) all (each step (omega arith)))
+    (λ not. subst (AllByRecursion P) (sym (append-nil before)) all)
+
 abbrev IsTick : Seen → Type 0
 IsTick (ticked tick) = Unit {0}
 IsTick other = ⊥
 
 ticks_are_ticks : (funcs : List Func) (every step : ℕ) → AllByRecursion IsTick (ticks_before funcs every step)
-ticks_are_ticks funcs every zero = tt
-ticks_are_ticks funcs every (suc step) =
-    let before = ticks_before funcs every step in
-    let all = ticks_are_ticks funcs every step in
-    cond_both (is_asked every step) (tick_at funcs step step every true None ∷ []) [] (λ more. AllByRecursion IsTick (before ++ more))
-    (λ asked. all_pushed IsTick before (tick_at funcs step step every true None) all tt)
-    (λ not. subst (AllByRecursion IsTick) (sym (append-nil before)) all)
+ticks_are_ticks funcs every step = each_tick IsTick funcs every step (λ at below. tt)
 
--- a session that has begun is finished after all ticks
-finished_behind : (number : ℕ) (begun : Begun) (ticks : List Seen) (time : ℕ) (reasons : DeoptReasons) → AllByRecursion IsTick ticks
-    → is_some (recording_behind number (Some begun) (ticks ++ finished time true reasons ∷ [])) ≡ true
-finished_behind number begun [] time reasons all = refl
-finished_behind number begun (ticked tick ∷ ticks) time reasons all = finished_behind number (with_tick number tick begun) ticks time reasons all.1
-finished_behind number begun (started s options at ∷ ticks) time reasons all = absurd all.0
-finished_behind number begun (stopped s at given ∷ ticks) time reasons all = absurd all.0
-finished_behind number begun (finished at files given ∷ ticks) time reasons all = absurd all.0
+-- nothing ends the one session before the end of a run
+pub unended_before : (funcs : List Func) (options : Options) (step : ℕ) → AllByRecursion (λ mark. closes 1 mark ≡ false) (seen_before funcs options step)
+unended_before funcs options step = (refl, (refl, each_tick (λ mark. closes 1 mark ≡ false) funcs options.interval step (λ at below. refl)))
 
--- the one session of a run has a file
-pub has_file : (funcs : List Func) (options : Options) (step time : ℕ) (reasons : DeoptReasons) → is_some (recording 1 (seen_before funcs options step ++ finished time true reasons ∷ [])) ≡ true
-has_file funcs options step time reasons =
-    let begun : Begun = record { options = options; start = 0; ticks = [] } in
-    let first : ResolvedTick = record { time = 0; interval = 0; hit = false; only = Some (session 1); frames = plain_frames funcs (plain funcs 0) } in
-    finished_behind 1 (with_tick 1 first begun) (ticks_before funcs options.interval step) time reasons (ticks_are_ticks funcs options.interval step)
+-- the times of ticks are exact, for a run is short
+pub exact_before : (funcs : List Func) (options : Options) (step : ℕ) → step ≤ 4096 → AllByRecursion HasExactTime (seen_before funcs options step)
+exact_before funcs options step few = (tt, (omega arith, each_tick HasExactTime funcs options.interval step (λ at below. omega (arith, below, few))))
 
 -- the sessions after the start of a run
 abbrev with_one : Options → Course
 with_one options = course_after (none_yet) (Start options)
+
+no_tick_runs : (numbers : List ℕ) (ticks : List Seen) → AllByRecursion IsTick ticks → running_on numbers ticks ≡ numbers
+no_tick_runs numbers [] all = refl
+no_tick_runs numbers (ticked tick ∷ ticks) all = no_tick_runs numbers ticks all.1
+no_tick_runs numbers (started s options at ∷ ticks) all = absurd all.0
+no_tick_runs numbers (stopped s at given ∷ ticks) all = absurd all.0
+no_tick_runs numbers (finished at files given ∷ ticks) all = absurd all.0
+
+-- exactly the one session runs before the end of a run
+pub one_runs : (funcs : List Func) (options : Options) (step : ℕ) → running_on [] (seen_before funcs options step) ≡ 1 ∷ []
+one_runs funcs options step = no_tick_runs (1 ∷ []) (ticks_before funcs options.interval step) (ticks_are_ticks funcs options.interval step)
 
 no_tick_ends : (running : List ℕ) (ticks seen : List Seen) → AllByRecursion IsTick ticks → ends_behind running (ticks ++ seen) ≡ ends_behind running seen
 no_tick_ends running [] seen all = refl

@@ -1,8 +1,8 @@
 // A run: the guest's recording, the delivery of its file, and the text that is printed.
-ghost use Rattle.std.specs.Prelude.{◌≡◌, ◌≤◌, ◌⊎◌, ◌<◌, [], ◌∷◌, ◌++◌, IfOk, OnOk, IsErrOf, length, flat_map, map, string_bytes};
+ghost use Rattle.std.specs.Prelude.{◌≡◌, ◌≤◌, ◌⊎◌, ◌<◌, [], ◌∷◌, ◌++◌, ℕ, List, IfOk, OnOk, IsErrOf, length, flat_map, string_bytes};
 ghost use Rattle.std.specs.List.{AllByRecursion};
 ghost use Rattle.guest_text.specs.Straight.{IsStraight};
-ghost use Rattle.code_event.specs.Seen.{seen_by};
+ghost use Rattle.guest_text.specs.declared.instr.Func.{Func};
 ghost use Rattle.prof_base.specs.Causes.{Rose};
 ghost use Rattle.prof_outer.specs.Appends.{AppendsWhole, AppendsPart};
 ghost use Rattle.isolate.specs.PlainFile.{plain_files};
@@ -15,13 +15,13 @@ ghost use Rattle.prof_top.specs.Schedules.{HasSchedules};
 
 use crate::ending::Ending;
 use crate::printing::{printed, schedule_lines};
-use crate::recording::{RecordedRun, SESSION, record};
+use crate::recording::{RecordedRun, record};
+use cpuprofile::write_finished;
 use guest_text::Program;
 use out_stream::{OutputStream, Undelivered};
 use prof_base::{MAX_INTERVAL, Memory, Sequence};
 use prof_outer::{Sink, SinkFault};
 use record_text::Schedule;
-use reference_profile::file;
 use std::alloc::Global;
 
 /// The result of a call: how it ended, and the schedules of the runs that took place.
@@ -41,21 +41,15 @@ struct Recorded {
     file: Sequence<u8>,
 }
 
-// Makes the file of the one session.
-fn session_file(
-    alloc: Global,
-    program: &Program,
-    every: u32,
-    recording: &RecordedRun,
-) -> Result<Sequence<u8>, Memory>
-    requires low { 1 ≤ every }
-    requires high { every ≤ MAX_INTERVAL }
-    requires recorded { IsRecorded program.now every recording.now.schedule (map seen_by recording.now.seen) }
-    ensures file { IfOk result (λ text. plain_files program.now recording.now.schedule ≡ one_file text) }
+// Writes the file of the one session.
+fn session_file(alloc: Global, recording: &RecordedRun) -> Result<Sequence<u8>, Memory>
+    ensures file { IfOk result (λ text. (funcs : List Func) (every : ℕ)
+        → IsRecorded funcs every recording.now.schedule recording.now.profile
+        → plain_files funcs recording.now.schedule ≡ one_file text) }
     ensures some { IfOk result (λ text. 0 < length text) }
 {
-    let text = file(alloc, every, SESSION, recording.seen.as_slice())?;
-    Ok(text.unwrap())
+    let text = write_finished(alloc, &recording.profile)?;
+    Ok(Sequence::from_vec(text))
 }
 
 // Runs the program, and makes the lines that are printed of the run and the text of its file.
@@ -67,7 +61,7 @@ fn record_run(alloc: Global, program: &Program, every: u32) -> Result<Recorded, 
     ensures some { IfOk result (λ recorded. 0 < length recorded.file) }
 {
     let recording = record(alloc, program, every)?;
-    let file = session_file(alloc, program, every, &recording)?;
+    let file = session_file(alloc, &recording)?;
     let lines = schedule_lines(alloc, &recording.schedule)?;
     let mut schedules = Sequence::new(alloc);
     schedules.push(recording.schedule)?;

@@ -1,6 +1,5 @@
-use Rattle.std.proofs.Common.{◌≡◌, ◌≤◌, ◌-◌, length, map, false}
+use Rattle.std.proofs.Common.{◌≡◌, ◌≤◌, ◌-◌, length, false}
 use Rattle.guest_text.specs.Straight.{IsStraightBody}
-use Rattle.code_event.specs.Seen.{seen_by}
 use Rattle.isolate.specs.Fits.{IsGoing}
 use Rattle.prof_top.specs.Log.{IsLog}
 use Rattle.prof_top.specs.Straight.{IsAfter}
@@ -14,7 +13,7 @@ invariant-loop-machine l = record {
   few : l.step ≤ length l.machine.main.now.body;
   after : IsAfter l.fn.program l.machine.main.now l.machine.index l.machine.registers l.machine.has_halted l.step;
   before : IsGoing l.fn.program (l.step - 1);
-  log : IsLog l.fn.program l.fn.every l.step l.log.schedule (map seen_by l.log.seen);
+  log : IsLog l.fn.program l.fn.every l.step l.log.schedule l.log.book;
 }
 
 abbrev pub decreases-loop-machine : goal.decreases-loop-machine
