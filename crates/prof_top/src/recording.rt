@@ -114,7 +114,7 @@ fn give_tick(
 {
     let frames = machine.frames(alloc)?;
     let paths = paths_over(alloc, frames.as_slice())?;
-    // The book takes the functions from the paths, and never looks at the stamps.
+    // The book takes the functions from the paths, and needs neither stamps nor addresses.
     let tick = Tick {
         order: 0,
         tick_number: 0,
@@ -128,7 +128,7 @@ fn give_tick(
     book.tick(&tick, &paths)
 }
 
-/// The schedule so far, and the session, which keeps what it sees in its tree.
+/// What has happened so far, and the book of the one session, which has seen it.
 #[derive(Drop)]
 struct Log {
     schedule: Schedule,
