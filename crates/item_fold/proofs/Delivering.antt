@@ -1,9 +1,7 @@
 -- How what has been delivered grows with one more file.
-use Rattle.std.proofs.Common.{◌≡◌, ◌≢◌, ℕ, zero, suc, ◌≤◌, List, [], ◌∷◌, ◌++◌, length, map, take, refl, sym, ap, ap₂, subst, ◌∙◌, append-nil, append_assoc, arith}
+use Rattle.std.proofs.Common.{◌≡◌, ◌≢◌, ℕ, zero, suc, ◌≤◌, List, [], ◌∷◌, ◌++◌, length, map, take, refl, sym, ap, ap₂, subst, ◌∙◌, append_assoc, arith}
 use Rattle.std.proofs.lemmas.List.{take-append-le, take_all, length-append, map-append}
 use Rattle.std.specs.Prelude.{Option, Some, None, option_map, IfSome, Result, Ok, Err}
-use Rattle.std.specs.Option.{option_map_or}
-use Rattle.std.specs.List.{slice_get}
 use Rattle.prof_base.specs.Prefix.{IsPrefix}
 use Rattle.code_event.specs.ItemFile.{SessionFile}
 use Rattle.out_stream.specs.AddedParts.{text_at, AddsParts}
@@ -11,7 +9,7 @@ use Rattle.out_stream.specs.Parts.{Parts, grown, closed, GrowsByPrefix}
 use Rattle.out_stream.specs.declared.stream.Undelivered.{Undelivered}
 use Rattle.out_stream.specs.declared.stream.Undelivered.TheVariants.{Memory}
 use Rattle.item_fold.specs.Delivered.{note_of, texts_of, Delivers}
-use Rattle.item_fold.specs.declared.folder.FileNote.{FileNote}
+use Rattle.item_fold.specs.declared.delivery.FileNote.{FileNote}
 
 -- a part of a text that is there, or of no bytes past the last, is a part where there are more texts
 prefix_more : (texts more : List (List ℕ)) (number : ℕ) (part : List ℕ) → IsPrefix part (text_at texts number) → IsPrefix part (text_at (texts ++ more) number)
@@ -113,7 +111,7 @@ cut_next files file fault notes before old new grows d =
     let texts : List (List ℕ) = texts_of files in
     let whole : texts_of (files ++ file ∷ []) ≡ texts ++ file.text ∷ [] = texts_more files (file ∷ []) in
     let last : text_at (texts_of (files ++ file ∷ [])) (length files) ≡ file.text =
-        ap₂ (λ (l : List (List ℕ)) (n : ℕ). text_at l n) whole (sym (length_texts files)) ∙ last_text texts file.text in
+    ap₂ (λ (l : List (List ℕ)) (n : ℕ). text_at l n) whole (sym (length_texts files)) ∙ last_text texts file.text in
     record {
       number = length files;
       within = omega (arith, length-append files (file ∷ []));

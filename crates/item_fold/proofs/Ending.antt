@@ -1,13 +1,12 @@
 -- What a fold has delivered while a finish ends the running sessions.
-use Rattle.std.proofs.Common.{◌≡◌, ◌≢◌, ℕ, ◌==◌, List, [], ◌∷◌, ◌++◌, length, map, refl, sym, ap, subst, ◌∙◌, inl, inr, append-nil, append_assoc, arith}
-use Rattle.std.proofs.lemmas.Bool.Decides.{nat_tests}
+use Rattle.std.proofs.Common.{◌≡◌, ℕ, List, [], ◌∷◌, ◌++◌, map, refl, sym, ap, subst, ◌∙◌, inl, inr, append-nil, append_assoc}
 use Rattle.std.proofs.lemmas.List.{map-append}
 use Rattle.std.proofs.lemmas.Cmp.{nat_cmp_total, tied_itself}
 use Rattle.std.proofs.Common.{Less, Equal}
-use Rattle.std.specs.Prelude.{Option, Some, None, Result, Ok, Err, true, false}
+use Rattle.std.specs.Prelude.{Option, Result, Ok, Err, true}
 use Rattle.std.specs.List.{AllByRecursion}
 use Rattle.std.specs.Ordering.{nat_cmp}
-use Rattle.prof_base.proofs.Ordered.{Has, has_from_contains, contains_from_has}
+use Rattle.prof_base.proofs.Ordered.{Has, contains_from_has}
 use Rattle.prof_base.specs.Ordered.{Rises, AllAfter}
 use Rattle.prof_base.specs.declared.ids.SessionId.{SessionId}
 use Rattle.attribution.proofs.Courses.{Unended, unended_more, running_on-more}
@@ -15,7 +14,7 @@ use Rattle.attribution.proofs.FinishedFiles.{finishes_are_stops, stops_seen}
 use Rattle.attribution.proofs.LegalNext.{nothing_follows_a_finish, running_have_not_ended, finishes_are_last}
 use Rattle.attribution.proofs.Running.{running_is}
 use Rattle.attribution.proofs.Without.{has_without, other_test, without_none, without_first}
-use Rattle.attribution.specs.Attribution.{StandsFor, HasNotEnded, running_in}
+use Rattle.attribution.specs.Attribution.{HasNotEnded, running_in}
 use Rattle.attribution.specs.ItemLaws.{stop_at, stops_at}
 use Rattle.code_event.proofs.FilesGrow.{files_grow, open_seen}
 use Rattle.code_event.proofs.SeenMore.{seen_more}
@@ -32,20 +31,19 @@ use Rattle.code_event.specs.declared.tick.Item.{Item}
 use Rattle.code_event.specs.declared.tick.Item.TheVariants as item
 use Rattle.out_stream.specs.Parts.{Parts}
 use Rattle.out_stream.specs.declared.stream.Undelivered.{Undelivered}
-use Rattle.out_stream.specs.declared.stream.Undelivered.TheVariants.{Memory}
 use Rattle.item_fold.specs.Delivered.{Delivers}
-use Rattle.item_fold.specs.Folding.{FolderParts, HasFolded, FoldsEvent, FoldsStop}
+use Rattle.item_fold.specs.Folding.{FoldingParts, HasFolded, FoldsEvent, FoldsStop}
 use Rattle.item_fold.proofs.Delivering.{delivers_more, delivers_same}
 use Rattle.item_fold.proofs.Taking.{not_open}
 
 -- These sessions have been stopped, and the others of those that ran still run.
-pub record HasEnded (base : ℕ) (items : List Item) (time : ℕ) (now : FolderParts) (before parts : Option Parts) : Type 0 where
+pub record HasEnded (base : ℕ) (items : List Item) (time : ℕ) (now : FoldingParts) (before parts : Option Parts) : Type 0 where
   pub done : List ℕ
   pub running : running_after items ≡ done ++ running_in now.attributor
   pub folded : HasFolded base (items ++ stops_at time done) (Ok tt) now before parts
 
 -- since then, at the finish of whatever list
-abbrev pub IsEnding : FolderParts → Option Parts → ℕ → FolderParts → Option Parts → Type 0
+abbrev pub IsEnding : FoldingParts → Option Parts → ℕ → FoldingParts → Option Parts → Type 0
 IsEnding old parts time now parts' =
     (base : ℕ) (items : List Item) (e : EventRecord) (before : Option Parts) → IsLegalItems (items ++ item.Event e ∷ []) → e.event ≡ Finish time true
     → HasFolded base items (Ok tt) old before parts → HasEnded base items time now before parts'
@@ -55,7 +53,7 @@ open_stops [] time [] unfinished = tt
 open_stops [] time (n ∷ numbers) unfinished = (tt, open_stops [] time numbers unfinished)
 open_stops (first ∷ items) time numbers unfinished = (unfinished.0, open_stops items time numbers unfinished.1)
 
-pub ending_begins : (old : FolderParts) (parts : Option Parts) (time : ℕ) → IsEnding old parts time old parts
+pub ending_begins : (old : FoldingParts) (parts : Option Parts) (time : ℕ) → IsEnding old parts time old parts
 ending_begins old parts time base items e before legal is h = record {
   done = [];
   running = sym (running_is old.attributor items (h.stands refl (nothing_follows_a_finish items [] (item.Event e) legal)));
@@ -87,7 +85,7 @@ has_not_ended items e time done number legal h =
     let why : DeoptReasons = reasons (events_of items) in
     let stops : List Seen = map (λ n. stopped (session n) time why) done in
     let whole : seen_items (items ++ stops_at time done) ≡ seen ++ stops =
-        seen_more [] no_reasons items (stops_at time done) ∙ ap (λ (l : List Seen). seen ++ l) (stops_seen (ranges (events_of items)) why time done) in
+    seen_more [] no_reasons items (stops_at time done) ∙ ap (λ (l : List Seen). seen ++ l) (stops_seen (ranges (events_of items)) why time done) in
     let now = runs_after_stops (running_after items) time why done number (subst (λ (l : List ℕ). Has l number) (ap (running_on []) whole ∙ running_on-more [] seen stops) h) in
     subst (Unended number) (sym whole) (unended_more number seen stops (running_have_not_ended items [] (item.Event e) number legal (contains_from_has (running_after items) number now.0)) now.1)
 
@@ -96,7 +94,7 @@ stops_more time [] number = refl
 stops_more time (n ∷ done) number = ap (λ l. stop_at time n ∷ l) (stops_more time done number)
 
 -- the next session that runs was ended
-one_ended : (old now new : FolderParts) (parts at parts' : Option Parts) (time : ℕ) (s : SessionId) (rest : List ℕ) (answer : Result (Unit {0}) Undelivered)
+one_ended : (old now new : FoldingParts) (parts at parts' : Option Parts) (time : ℕ) (s : SessionId) (rest : List ℕ) (answer : Result (Unit {0}) Undelivered)
     → running_in now.attributor ≡ s.0 ∷ rest → FoldsStop now at s time answer new parts' → IsEnding old parts time now at
     → (base : ℕ) (items : List Item) (e : EventRecord) (before : Option Parts) → IsLegalItems (items ++ item.Event e ∷ []) → e.event ≡ Finish time true → HasFolded base items (Ok tt) old before parts
     → (done : List ℕ) × (running_after items ≡ done ++ s.0 ∷ rest) × HasFolded base (items ++ stops_at time (done ++ s.0 ∷ [])) answer new before parts'
@@ -106,8 +104,7 @@ one_ended old now new parts at parts' time s rest answer runs folds ending base 
     let unfinished = open_stops items time ended.done (nothing_follows_a_finish items [] (item.Event e) legal) in
     let running : running_in now.attributor ≡ running_after sofar = running_is now.attributor sofar (ended.folded.stands refl unfinished) in
     let first : Has (running_after sofar) s.0 = subst (λ (l : List ℕ). Has l s.0) (sym runs ∙ running) (inl refl) in
-    let here : EventRecord = record { number = 0; ticks_before = 0; event = Stop (session s.0) time } in
-    (
+    let here : EventRecord = record { number = 0; ticks_before = 0; event = Stop (session s.0) time } in (
       ended.done,
       ended.running ∙ ap (λ (l : List ℕ). ended.done ++ l) runs,
       subst (λ (all : List Item). HasFolded base all answer new before parts')
@@ -129,7 +126,7 @@ not_after n (m ∷ ns) after (inr old) = not_after n ns after.1 old
 rises_out : (number : ℕ) (rest : List ℕ) → Rises nat_cmp (number ∷ rest) → ¬ Has rest number
 rises_out number rest rises h = not_after number rest rises.0 h
 
-pub ending_goes_on : (old now new : FolderParts) (parts at parts' : Option Parts) (time : ℕ) (s : SessionId) (rest : List ℕ)
+pub ending_goes_on : (old now new : FoldingParts) (parts at parts' : Option Parts) (time : ℕ) (s : SessionId) (rest : List ℕ)
     → running_in now.attributor ≡ s.0 ∷ rest → Rises nat_cmp (running_in now.attributor) → running_in new.attributor ≡ without s.0 (running_in now.attributor)
     → FoldsStop now at s time (Ok tt) new parts' → IsEnding old parts time now at → IsEnding old parts time new parts'
 ending_goes_on old now new parts at parts' time s rest runs rises left folds ending base items e before legal is h =
@@ -148,7 +145,7 @@ finish_files : (base : ℕ) (items : List Item) (e : EventRecord) (time : ℕ) (
 finish_files base items e time all legal is same = finishes_are_stops base items e time legal is ∙ ap (λ (ns : List ℕ). item_files base (items ++ stops_at time ns)) same
 
 -- something went wrong at the next session that runs
-pub ending_stops : (old now new : FolderParts) (parts at parts' : Option Parts) (time : ℕ) (s : SessionId) (rest : List ℕ) (fault : Undelivered)
+pub ending_stops : (old now new : FoldingParts) (parts at parts' : Option Parts) (time : ℕ) (s : SessionId) (rest : List ℕ) (fault : Undelivered)
     → running_in now.attributor ≡ s.0 ∷ rest → FoldsStop now at s time (Err fault) new parts' → IsEnding old parts time now at → FoldsEvent old parts (Finish time true) (Err fault) new parts'
 ending_stops old now new parts at parts' time s rest fault runs folds ending e is base items more before legal h =
     let none : more ≡ [] = finishes_are_last items more e time true legal is in
@@ -157,11 +154,11 @@ ending_stops old now new parts at parts' time s rest fault runs folds ending e i
     let unfinished = nothing_follows_a_finish items [] (item.Event e) alone in
     let sofar : List Item = items ++ stops_at time (one.0 ++ s.0 ∷ []) in
     let split : items ++ stops_at time (one.0 ++ s.0 ∷ rest) ≡ sofar ++ stops_at time rest =
-        ap (λ (ns : List ℕ). items ++ stops_at time ns) (sym (append_assoc one.0 (s.0 ∷ []) rest))
-        ∙ ap (λ (l : List Item). items ++ l) (map-append (stop_at time) (one.0 ++ s.0 ∷ []) rest) ∙ sym (append_assoc items (stops_at time (one.0 ++ s.0 ∷ [])) (stops_at time rest)) in
+    ap (λ (ns : List ℕ). items ++ stops_at time ns) (sym (append_assoc one.0 (s.0 ∷ []) rest))
+    ∙ ap (λ (l : List Item). items ++ l) (map-append (stop_at time) (one.0 ++ s.0 ∷ []) rest) ∙ sym (append_assoc items (stops_at time (one.0 ++ s.0 ∷ [])) (stops_at time rest)) in
     let added = files_more base sofar (stops_at time rest) (open_stops items time (one.0 ++ s.0 ∷ []) unfinished) in
     let whole : item_files base (items ++ item.Event e ∷ []) ≡ item_files base sofar ++ added.0 =
-        finish_files base items e time (one.0 ++ s.0 ∷ rest) alone is one.1 ∙ ap (item_files base) split ∙ added.1 in
+    finish_files base items e time (one.0 ++ s.0 ∷ rest) alone is one.1 ∙ ap (item_files base) split ∙ added.1 in
     record {
       base_is = one.2.base_is;
       delivers = subst (λ (fs : List SessionFile). Delivers fs (Err fault) new.notes before parts') (sym whole)
@@ -170,7 +167,7 @@ ending_stops old now new parts at parts' time s rest fault runs folds ending e i
     }
 
 -- all that ran were ended
-pub ending_ends : (old now : FolderParts) (parts at : Option Parts) (time : ℕ) → running_in now.attributor ≡ [] → IsEnding old parts time now at → FoldsEvent old parts (Finish time true) (Ok tt) now at
+pub ending_ends : (old now : FoldingParts) (parts at : Option Parts) (time : ℕ) → running_in now.attributor ≡ [] → IsEnding old parts time now at → FoldsEvent old parts (Finish time true) (Ok tt) now at
 ending_ends old now parts at time none ending e is base items more before legal h =
     let last : more ≡ [] = finishes_are_last items more e time true legal is in
     let alone : IsLegalItems (items ++ item.Event e ∷ []) = subst (λ (l : List Item). IsLegalItems (items ++ item.Event e ∷ l)) last legal in
@@ -184,7 +181,7 @@ ending_ends old now parts at time none ending e is base items more before legal 
     }
 
 -- something went wrong at an item, where others may follow: if it is a finish, none does
-pub files_so_far : (base : ℕ) (items rest : List Item) (next : Item) (all : List Item) (fault : Undelivered) (new : FolderParts) (before parts : Option Parts) → all ≡ items ++ next ∷ rest → IsLegalItems all
+pub files_so_far : (base : ℕ) (items rest : List Item) (next : Item) (all : List Item) (fault : Undelivered) (new : FoldingParts) (before parts : Option Parts) → all ≡ items ++ next ∷ rest → IsLegalItems all
     → HasFolded base (items ++ next ∷ []) (Err fault) new before parts → Delivers (item_files base all) (Err fault) new.notes before parts
 files_so_far base items [] next all fault new before parts split legal h = subst (λ (l : List Item). Delivers (item_files base l) (Err fault) new.notes before parts) (sym split) h.delivers
 files_so_far base items (after ∷ rest) next all fault new before parts split legal h =

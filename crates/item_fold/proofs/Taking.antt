@@ -1,8 +1,8 @@
 -- What a fold has delivered after one more item.
-use Rattle.std.proofs.Common.{◌≡◌, ◌≢◌, ℕ, suc, ◌+◌, ◌<◌, List, [], ◌∷◌, ◌++◌, length, take, drop, get_or, refl, sym, ap, subst, ◌∙◌, append-nil, append_assoc, arith}
+use Rattle.std.proofs.Common.{◌≡◌, ℕ, suc, ◌+◌, ◌<◌, List, [], ◌∷◌, ◌++◌, length, take, drop, get_or, refl, sym, ap, subst, ◌∙◌, append-nil, append_assoc, arith}
 use Rattle.std.proofs.Math.Seq.{take-suc}
 use Rattle.std.proofs.lemmas.List.{take-append-drop}
-use Rattle.std.specs.Prelude.{Bool, Contains, Option, Some, None, Result, Ok, Err, true, false}
+use Rattle.std.specs.Prelude.{Bool, Contains, Option, Some, None, Result, Ok, Err, false}
 use Rattle.std.specs.List.{AllByRecursion, slice_get}
 use Rattle.attribution.proofs.FinishedFiles.{stops_add_their_files}
 use Rattle.attribution.proofs.LegalNext.{nothing_follows_a_finish, starts_are_new, stops_are_of_running, running_have_not_ended}
@@ -24,12 +24,12 @@ use Rattle.out_stream.specs.Parts.{Parts}
 use Rattle.out_stream.specs.declared.stream.Undelivered.{Undelivered}
 use Rattle.out_stream.specs.declared.stream.Undelivered.TheVariants.{Memory}
 use Rattle.prof_base.specs.declared.ids.SessionId.{SessionId}
-use Rattle.session_book.specs.Refused.{IsStartRefused, IsStopRefused}
+use Rattle.session_book.specs.Refused.{IsStartRefused}
 use Rattle.session_book.specs.declared.refused.StartRefused.{StartRefused}
 use Rattle.session_book.specs.declared.refused.StartRefused.TheVariants as start
 use Rattle.item_fold.specs.Delivered.{Delivers}
-use Rattle.item_fold.specs.Folding.{FolderParts, HasFolded, Folds, FoldsEvent, FoldsStop}
-use Rattle.item_fold.specs.declared.folder.FileNote.{FileNote}
+use Rattle.item_fold.specs.Folding.{FoldingParts, HasFolded, Folds, FoldsEvent, FoldsStop}
+use Rattle.item_fold.specs.declared.delivery.FileNote.{FileNote}
 use Rattle.item_fold.proofs.Delivering.{delivers_more, delivers_same}
 
 -- an item that ends no session adds no file
@@ -38,7 +38,7 @@ none_added base items next unfinished none =
     items_add_files base items next unfinished ∙ ap (λ (ns : List ℕ). item_files base items ++ files_of base (seen_items (items ++ next ∷ [])) ns) none ∙ append-nil (item_files base items)
 
 -- an item that ends no session was taken
-pub took : (old new : FolderParts) (next : Item) (base : ℕ) (items rest : List Item) (before parts : Option Parts)
+pub took : (old new : FoldingParts) (next : Item) (base : ℕ) (items rest : List Item) (before parts : Option Parts)
     → IsLegalItems (items ++ next ∷ rest) → ended_by (running_after items) next ≡ [] → new.attributor.book.base ≡ old.attributor.book.base → new.notes ≡ old.notes
     → (AllByRecursion IsOpenItem (items ++ next ∷ []) → StandsFor old.attributor items → StandsFor new.attributor (items ++ next ∷ []))
     → HasFolded base items (Ok tt) old before parts → HasFolded base (items ++ next ∷ []) (Ok tt) new before parts
@@ -52,7 +52,7 @@ took old new next base items rest before parts legal none same_base same_notes t
     }
 
 -- there was no memory for an item
-pub no_room : (old new : FolderParts) (next : Item) (base : ℕ) (items : List Item) (before parts : Option Parts) → AllByRecursion IsOpenItem items
+pub no_room : (old new : FoldingParts) (next : Item) (base : ℕ) (items : List Item) (before parts : Option Parts) → AllByRecursion IsOpenItem items
     → new.attributor.book.base ≡ old.attributor.book.base → HasFolded base items (Ok tt) old before parts → HasFolded base (items ++ next ∷ []) (Err Memory) new before parts
 no_room old new next base items before parts unfinished same_base h = record {
   base_is = same_base ∙ h.base_is;
@@ -75,7 +75,7 @@ never_refused attributor items rest e s options time start.Already legal is stan
     absurd (may.0.0 (subst (λ (ns : List ℕ). Contains ns s.0) (running_is attributor items stands) refused))
 
 -- a stop whose file was delivered, or was not
-pub stopped_next : (old mid new : FolderParts) (s : SessionId) (time : ℕ) (text : List ℕ) (answer : Result (Unit {0}) Undelivered) (parts parts' : Option Parts)
+pub stopped_next : (old mid new : FoldingParts) (s : SessionId) (time : ℕ) (text : List ℕ) (answer : Result (Unit {0}) Undelivered) (parts parts' : Option Parts)
     → TakesEvent old.attributor mid.attributor (Stop s time)
     → ((items : List Item) (e : EventRecord) → e.event ≡ Stop s time → StandsFor old.attributor items → HasNotEnded s.0 items → item_file old.attributor.book.base (items ++ item.Event e ∷ []) s ≡ Some text)
     → mid.attributor.book.base ≡ old.attributor.book.base → mid.notes ≡ old.notes → new.attributor ≡ mid.attributor
@@ -93,12 +93,12 @@ stopped_next old mid new s time text answer parts parts' takes file same_base sa
     }
 
 -- a session that runs is not refused a stop
-pub never_unknown : (old new : FolderParts) (s : SessionId) (time : ℕ) (answer : Result (Unit {0}) Undelivered) (parts parts' : Option Parts) → ¬ Contains (running_in old.attributor) s.0
+pub never_unknown : (old new : FoldingParts) (s : SessionId) (time : ℕ) (answer : Result (Unit {0}) Undelivered) (parts parts' : Option Parts) → ¬ Contains (running_in old.attributor) s.0
     → FoldsStop old parts s time answer new parts'
 never_unknown old new s time answer parts parts' unknown base items e before is unfinished unended runs h =
     absurd (unknown (subst (λ (ns : List ℕ). Contains ns s.0) (sym (running_is old.attributor items (h.stands refl unfinished))) runs))
 
-pub stop_no_room : (old new : FolderParts) (s : SessionId) (time : ℕ) (parts : Option Parts) → new.attributor.book.base ≡ old.attributor.book.base → FoldsStop old parts s time (Err Memory) new parts
+pub stop_no_room : (old new : FoldingParts) (s : SessionId) (time : ℕ) (parts : Option Parts) → new.attributor.book.base ≡ old.attributor.book.base → FoldsStop old parts s time (Err Memory) new parts
 stop_no_room old new s time parts same_base base items e before is unfinished unended runs h = no_room old new (item.Event e) base items before parts unfinished same_base h
 
 -- ---- each kind of item
@@ -113,22 +113,22 @@ no_end running (Start session options time) changes = absurd changes
 no_end running (Stop session time) changes = absurd changes
 no_end running (Finish time files) changes = absurd changes
 
-pub folds_change : (old new : FolderParts) (event : CodeEvent) → ChangesCode event → new.attributor.book.base ≡ old.attributor.book.base → new.notes ≡ old.notes
+pub folds_change : (old new : FoldingParts) (event : CodeEvent) → ChangesCode event → new.attributor.book.base ≡ old.attributor.book.base → new.notes ≡ old.notes
     → TakesEvent old.attributor new.attributor event → (parts : Option Parts) → FoldsEvent old parts event (Ok tt) new parts
 folds_change old new event changes same_base same_notes takes parts e is base items rest before legal h =
     took old new (item.Event e) base items rest before parts legal (ap (ended_by_event (running_after items)) is ∙ no_end (running_after items) event changes) same_base same_notes (λ opened stands. takes items e is stands) h
 
-pub folds_start : (old new : FolderParts) (s : SessionId) (options : Options) (time : ℕ) → new.attributor.book.base ≡ old.attributor.book.base → new.notes ≡ old.notes
+pub folds_start : (old new : FoldingParts) (s : SessionId) (options : Options) (time : ℕ) → new.attributor.book.base ≡ old.attributor.book.base → new.notes ≡ old.notes
     → TakesEvent old.attributor new.attributor (Start s options time) → (parts : Option Parts) → FoldsEvent old parts (Start s options time) (Ok tt) new parts
 folds_start old new s options time same_base same_notes takes parts e is base items rest before legal h =
     took old new (item.Event e) base items rest before parts legal (ap (ended_by_event (running_after items)) is) same_base same_notes (λ opened stands. takes items e is stands) h
 
-pub folds_refused : (old new : FolderParts) (s : SessionId) (options : Options) (time : ℕ) (refusal : StartRefused) → (refusal ≡ start.Memory → ⊥) → IsStartRefused (running_in old.attributor) s.0 refusal
+pub folds_refused : (old new : FoldingParts) (s : SessionId) (options : Options) (time : ℕ) (refusal : StartRefused) → (refusal ≡ start.Memory → ⊥) → IsStartRefused (running_in old.attributor) s.0 refusal
     → (parts : Option Parts) → FoldsEvent old parts (Start s options time) (Ok tt) new parts
 folds_refused old new s options time refusal other refused parts e is base items rest before legal h =
     absurd (other (never_refused old.attributor items rest e s options time refusal legal is (h.stands refl (nothing_follows_a_finish items rest (item.Event e) legal)) refused))
 
-pub folds_tick : (old new : FolderParts) (tick : Tick) → new.attributor.book.base ≡ old.attributor.book.base → new.notes ≡ old.notes
+pub folds_tick : (old new : FoldingParts) (tick : Tick) → new.attributor.book.base ≡ old.attributor.book.base → new.notes ≡ old.notes
     → ((items : List Item) → StandsFor old.attributor items → StandsFor new.attributor (items ++ item.Tick tick ∷ []))
     → (parts : Option Parts) → Folds old parts (item.Tick tick) (Ok tt) new parts
 folds_tick old new tick same_base same_notes takes parts base items rest before legal h =
@@ -139,14 +139,14 @@ not_open [] e time files is opened = subst (λ event. IsOpenEvent event) is open
 not_open (first ∷ items) e time files is opened = not_open items e time files is opened.1
 
 -- a finish without files
-pub folds_no_files : (old : FolderParts) (time : ℕ) (parts : Option Parts) → FoldsEvent old parts (Finish time false) (Ok tt) old parts
+pub folds_no_files : (old : FoldingParts) (time : ℕ) (parts : Option Parts) → FoldsEvent old parts (Finish time false) (Ok tt) old parts
 folds_no_files old time parts e is base items rest before legal h =
     took old old (item.Event e) base items rest before parts legal (ap (ended_by_event (running_after items)) is) refl refl (λ opened stands. absurd (not_open items e time false is opened)) h
 
-pub folds_memory : (old new : FolderParts) (next : Item) → new.attributor.book.base ≡ old.attributor.book.base → (parts : Option Parts) → Folds old parts next (Err Memory) new parts
+pub folds_memory : (old new : FoldingParts) (next : Item) → new.attributor.book.base ≡ old.attributor.book.base → (parts : Option Parts) → Folds old parts next (Err Memory) new parts
 folds_memory old new next same_base parts base items rest before legal h = no_room old new next base items before parts (nothing_follows_a_finish items rest next legal) same_base h
 
-pub folds_stop : (old new : FolderParts) (s : SessionId) (time : ℕ) (answer : Result (Unit {0}) Undelivered) (parts parts' : Option Parts) → FoldsStop old parts s time answer new parts'
+pub folds_stop : (old new : FoldingParts) (s : SessionId) (time : ℕ) (answer : Result (Unit {0}) Undelivered) (parts parts' : Option Parts) → FoldsStop old parts s time answer new parts'
     → FoldsEvent old parts (Stop s time) answer new parts'
 folds_stop old new s time answer parts parts' folds e is base items rest before legal h =
     let runs = stops_are_of_running items rest e s time legal is in

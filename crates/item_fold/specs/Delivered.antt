@@ -5,7 +5,7 @@ use Rattle.out_stream.specs.AddedParts.{AddsParts}
 use Rattle.out_stream.specs.Parts.{Parts}
 use Rattle.out_stream.specs.declared.stream.Undelivered.{Undelivered}
 use Rattle.out_stream.specs.declared.stream.Undelivered.TheVariants.{Memory}
-use Rattle.item_fold.specs.declared.folder.FileNote.{FileNote}
+use Rattle.item_fold.specs.declared.delivery.FileNote.{FileNote}
 
 -- the note of a file
 abbrev pub note_of : SessionFile → FileNote

@@ -6,7 +6,8 @@ ghost use Rattle.code_event.specs.ItemFile.{item_files};
 ghost use Rattle.code_event.specs.ItemList.{IsLegalItems};
 ghost use Rattle.item_fold.specs.Delivered.{Delivers};
 
-use crate::folder::{FileNote, Folder};
+use crate::delivery::FileNote;
+use crate::folding::Folding;
 use code_event::Item;
 use out_stream::{OutputStream, Undelivered};
 use prof_base::{MAX_INTERVAL, Sequence};
@@ -42,10 +43,10 @@ pub fn fold_items<S: OutputStream>(
     ensures aborts { S.aborts stream.old ≤ S.aborts stream.new }
     ensures faults { S.stream_faults stream.old ≤ S.stream_faults stream.new }
 {
-    let mut folder = Folder::new(alloc, base);
-    let delivered = folder.take_all(items, stream);
+    let mut folding = Folding::new(alloc, base);
+    let delivered = folding.take_all(items, stream);
     Folded {
         delivered,
-        notes: folder.into_notes(),
+        notes: folding.into_notes(),
     }
 }

@@ -2,8 +2,9 @@
 //! sessions end.
 #![tactic(auto)]
 
+mod delivery;
 mod fold;
-mod folder;
+mod folding;
 
+pub use delivery::{FileNote, deliver_file};
 pub use fold::{Folded, fold_items};
-pub use folder::FileNote;

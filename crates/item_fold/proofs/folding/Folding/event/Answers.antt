@@ -1,6 +1,6 @@
 use Rattle.std.proofs.Common.{◌∙◌}
 use Rattle.item_fold.proofs.Taking.{folds_stop}
-use Rattle.item_fold.proofs.folder.Folder.event.Goals as goal
+use Rattle.item_fold.proofs.folding.Folding.event.Goals as goal
 
 pub returns-in-Start-clause-folds : goal.returns-in-Start-clause-folds
 returns-in-Start-clause-folds g c e is = c.start.ensures.folds (g.S.OutputStream.parts c.args.stream.now) e (is ∙ c.in-Start.is)

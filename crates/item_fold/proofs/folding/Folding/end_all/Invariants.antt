@@ -1,7 +1,7 @@
 use Rattle.std.proofs.Common.{◌≡◌, ◌≤◌, length}
 use Rattle.attribution.specs.Attribution.{running_in}
 use Rattle.item_fold.proofs.Ending.{IsEnding}
-use Rattle.item_fold.proofs.folder.Folder.end_all.Given as goal
+use Rattle.item_fold.proofs.folding.Folding.end_all.Given as goal
 
 abbrev pub invariant-loop-session : goal.invariant-loop-session
 invariant-loop-session g l = record {

@@ -1,6 +1,6 @@
 use Rattle.std.proofs.Common.{subst, sym, refl}
 use Rattle.item_fold.specs.Folding.{Folds}
-use Rattle.item_fold.proofs.folder.Folder.take.Goals as goal
+use Rattle.item_fold.proofs.folding.Folding.take.Goals as goal
 
 pub returns-in-Event-clause-folds : goal.returns-in-Event-clause-folds
 returns-in-Event-clause-folds g c =

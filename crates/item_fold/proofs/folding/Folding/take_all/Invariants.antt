@@ -3,7 +3,7 @@ use Rattle.std.specs.Prelude.{Option, Ok}
 use Rattle.code_event.specs.ItemList.{IsLegalItems}
 use Rattle.out_stream.specs.Parts.{Parts}
 use Rattle.item_fold.specs.Folding.{HasFolded}
-use Rattle.item_fold.proofs.folder.Folder.take_all.Given as goal
+use Rattle.item_fold.proofs.folding.Folding.take_all.Given as goal
 
 abbrev pub invariant-loop-item : goal.invariant-loop-item
 invariant-loop-item g l = record {

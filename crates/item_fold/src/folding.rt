@@ -11,6 +11,7 @@ ghost use Rattle.out_stream.specs.Parts.{Parts};
 ghost use Rattle.item_fold.specs.Delivered.{Delivers};
 ghost use Rattle.item_fold.specs.Folding.{Folds, FoldsEvent, FoldsStop, HasFolded};
 
+use crate::delivery::{FileNote, deliver_file};
 use attribution::Attributor;
 use code_event::{CodeEvent, Item, Options, Tick};
 use out_stream::{OutputStream, Undelivered};
@@ -19,69 +20,33 @@ use session_book::{StartRefused, StopRefused};
 use std::alloc::Global;
 use std::marker::Model;
 
-/// The note of a file that was delivered: its session, and its length in bytes.
-#[derive(Clone, Copy, Debug, PartialEq, Eq)]
-pub struct FileNote {
-    pub session: SessionId,
-    pub length: u64,
-}
-
 /// What has been attributed and delivered so far.
 #[derive(Drop)]
-pub(crate) struct Folder {
+pub(crate) struct Folding {
     alloc: Global,
     attributor: Attributor,
     notes: Sequence<FileNote>,
 }
 
-impl Model for Folder {
-    ghost use Rattle.item_fold.specs.Folding.{FolderParts};
+impl Model for Folding {
+    ghost use Rattle.item_fold.specs.Folding.{FoldingParts};
 
-    ghost Value = { FolderParts };
+    ghost Value = { FoldingParts };
 
     ghost view = { λ f. record { attributor = f.attributor; notes = f.notes } };
 }
 
-impl Folder {
+impl Folding {
     /// Makes the fold before any item.
-    pub(crate) fn new(alloc: Global, base: u32) -> Folder
+    pub(crate) fn new(alloc: Global, base: u32) -> Folding
         requires low { 1 ≤ base }
         requires high { base ≤ MAX_INTERVAL }
         ensures { (before : Option Parts) → HasFolded base [] (Ok tt) result before before }
     {
-        Folder {
+        Folding {
             alloc,
             attributor: Attributor::new(alloc, base),
             notes: Sequence::new(alloc),
-        }
-    }
-
-    // Delivers the file of a session, and notes it.
-    fn deliver<S: OutputStream>(
-        &mut self,
-        session: SessionId,
-        file: &[u8],
-        stream: &mut S,
-    ) -> Result<(), Undelivered>
-        requires some { 0 < length file.now }
-        ensures attributor { self.new.attributor ≡ self.old.attributor }
-        ensures delivers { (files : List SessionFile) (before : Option Parts) → Delivers files (Ok tt) self.old.notes before (S.parts stream.old)
-            → Delivers (files ++ record { session = session.0; text = file.now } ∷ []) result self.new.notes before (S.parts stream.new) }
-
-        // Each abort and each fault is counted. The size of chunks stays the same, and no count falls.
-        ensures aborted { IsErrOf result Undelivered.Aborted → Rose (S.aborts stream.old) (S.aborts stream.new) }
-        ensures failed { IsErrOf result Undelivered.Failed → Rose (S.stream_faults stream.old) (S.stream_faults stream.new) }
-        ensures chunk_size { S.chunk_bytes stream.new ≡ S.chunk_bytes stream.old }
-        ensures aborts { S.aborts stream.old ≤ S.aborts stream.new }
-        ensures faults { S.stream_faults stream.old ≤ S.stream_faults stream.new }
-    {
-        if let Err(fault) = stream.deliver_part(self.alloc, file) {
-            return Err(fault);
-        }
-        let length = file.len() as u64;
-        match self.notes.push(FileNote { session, length }) {
-            Ok(()) => Ok(()),
-            Err(Memory) => Err(Undelivered::Memory),
         }
     }
 
@@ -103,18 +68,14 @@ impl Folder {
         ensures faults { S.stream_faults stream.old ≤ S.stream_faults stream.new }
     {
         match self.attributor.stop(session, time) {
-            Ok(file) => self.deliver(session, &file, stream),
+            Ok(file) => { deliver_file(self.alloc, session, &file, &mut self.notes, stream) }
             Err(StopRefused::NoSession) => Ok(()),
             Err(StopRefused::Memory) => Err(Undelivered::Memory),
         }
     }
 
     // Ends the running sessions, in the order of their ids.
-    fn end_all<S: OutputStream>(
-        &mut self,
-        time: Micros,
-        stream: &mut S,
-    ) -> Result<(), Undelivered>
+    fn end_all<S: OutputStream>(&mut self, time: Micros, stream: &mut S) -> Result<(), Undelivered>
         ensures folds { FoldsEvent self.old (S.parts stream.old) (Finish time true) result self.new (S.parts stream.new) }
 
         // Each abort and each fault is counted. The size of chunks stays the same, and no count falls.

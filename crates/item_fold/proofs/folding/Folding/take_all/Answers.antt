@@ -1,6 +1,6 @@
-use Rattle.std.proofs.Common.{◌≡◌, ◌+◌, List, ◌∷◌, [], ◌++◌, take, drop, subst, sym, refl, ap, ◌∙◌, arith}
+use Rattle.std.proofs.Common.{◌+◌, List, take, drop, subst, sym, ◌∙◌, arith}
 use Rattle.std.proofs.lemmas.List.{take_all}
-use Rattle.std.specs.Prelude.{Ok, Err}
+use Rattle.std.specs.Prelude.{Ok}
 use Rattle.code_event.specs.ItemFile.{item_files}
 use Rattle.code_event.specs.ItemList.{IsLegalItems}
 use Rattle.code_event.specs.declared.tick.Item.{Item}
@@ -8,7 +8,7 @@ use Rattle.item_fold.specs.Delivered.{Delivers}
 use Rattle.item_fold.specs.Folding.{HasFolded}
 use Rattle.item_fold.proofs.Ending.{files_so_far}
 use Rattle.item_fold.proofs.Taking.{next_taken, next_split}
-use Rattle.item_fold.proofs.folder.Folder.take_all.Goals as goal
+use Rattle.item_fold.proofs.folding.Folding.take_all.Goals as goal
 
 pub loop-item-preserved : goal.loop-item-preserved
 loop-item-preserved g c =

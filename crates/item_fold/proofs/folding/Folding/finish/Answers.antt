@@ -1,7 +1,7 @@
-use Rattle.std.proofs.Common.{true, false, subst, sym, ap, ◌∙◌}
+use Rattle.std.proofs.Common.{ap, ◌∙◌}
 use Rattle.code_event.specs.declared.event.CodeEvent.TheVariants.{Finish}
 use Rattle.item_fold.proofs.Taking.{folds_no_files}
-use Rattle.item_fold.proofs.folder.Folder.finish.Goals as goal
+use Rattle.item_fold.proofs.folding.Folding.finish.Goals as goal
 
 pub returns-then-files-clause-folds : goal.returns-then-files-clause-folds
 returns-then-files-clause-folds g c e is = c.end_all.ensures.folds e (is ∙ ap (λ b. Finish c.args.time b) c.if-files.true)
