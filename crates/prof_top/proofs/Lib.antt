@@ -1,7 +1,10 @@
 pub mod Numbers
 mod Clock
 mod RunSchedules
-mod Returned
+mod Outcomes
+mod Folds
+mod Lines
+mod TicksAndEvents
 mod Straight
 mod SeenRuns
 mod FinishedProfiles

@@ -32,7 +32,7 @@ use Rattle.prof_top.proofs.RunSchedules.{few_entries, run_schedule}
 use Rattle.prof_top.proofs.SeenRuns.{unended_before, exact_before, one_runs, one_ends, seen_of_halt}
 use Rattle.prof_top.proofs.Straight.{never_gives_up}
 use Rattle.prof_top.specs.Log.{seen_before, IsLog, HaltsAt, IsRecorded}
-use Rattle.prof_top.specs.Schedules.{IsHead}
+use Rattle.prof_top.specs.RunSchedule.{IsHead}
 use Rattle.prof_top.specs.StepClock.{entry_at, is_asked, entries_before, last_step, IsWholeRecording}
 use Rattle.prof_top.specs.Straight.{IsAfter}
 use Rattle.prof_top.specs.declared.recording.TheConstants.{BUDGET, ENTRIES}

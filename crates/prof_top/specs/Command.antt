@@ -2,6 +2,8 @@
 use Rattle.std.specs.Prelude.{◌≡◌, ◌≢◌, ℕ, ◌<◌, ◌≤◌, List, [], ◌∷◌, length, slice_index, codes, decimal}
 use Rattle.prof_base.specs.Text.{IsText}
 use Rattle.prof_base.specs.declared.interval.TheConstants.{MAX_INTERVAL}
+use Rattle.prof_top.specs.declared.words.CommandLine.{CommandLine}
+use Rattle.prof_top.specs.declared.words.CommandLine.TheVariants.{Run, Fold}
 
 -- a word that names something: a text of at least one byte that does not begin with a dash
 pub record IsName (word : List ℕ) : Type 0 where
@@ -9,17 +11,25 @@ pub record IsName (word : List ℕ) : Type 0 where
   pub some : 0 < length word
   pub no_dash : slice_index word 0 ≢ 45
 
--- the words `run PROG EVERY`: the name of a program, and microseconds from 1 to 1,000,000,000
-pub record IsRun (words : List (List ℕ)) (name : List ℕ) (every : ℕ) : Type 0 where
-  pub spelled : words ≡ codes "run" ∷ name ∷ decimal every ∷ []
-  pub named : IsName name
-  pub low : 1 ≤ every
-  pub high : every ≤ MAX_INTERVAL
+-- the words that are typed for it
+abbrev pub words_of : CommandLine → List (List ℕ)
+words_of (Run program every) = codes "run" ∷ program ∷ decimal every ∷ []
+words_of (Fold items) = codes "fold" ∷ items ∷ []
+
+-- its names are names, and its numbers are in their ranges
+abbrev pub IsInRange : CommandLine → Type 0
+IsInRange (Run program every) = IsName program × (1 ≤ every) × (every ≤ MAX_INTERVAL)
+IsInRange (Fold items) = IsName items
+
+-- the words are this line of the table
+pub record Means (words : List (List ℕ)) (line : CommandLine) : Type 0 where
+  pub spelled : words ≡ words_of line
+  pub in_range : IsInRange line
 
 -- the words are a line of the table
 abbrev pub IsCommand : List (List ℕ) → Type 0
-IsCommand words = (name : List ℕ) × (every : ℕ) × IsRun words name every
+IsCommand words = (line : CommandLine) × Means words line
 
--- the words are a line of the table that names a program, and this holds of the name
-abbrev pub NamesProgram : List (List ℕ) → (List ℕ → Type 0) → Type 0
-NamesProgram words P = (name : List ℕ) × (every : ℕ) × IsRun words name every × P name
+-- the words ask for a run
+abbrev pub AsksToRun : List (List ℕ) → Type 0
+AsksToRun words = (program : List ℕ) × (every : ℕ) × Means words (Run program every)

@@ -1,10 +1,15 @@
--- What comes out of a run: its files through the stream, and its text through `out`.
-use Rattle.std.specs.Prelude.{◌≡◌, ◌≢◌, ◌⊎◌, ℕ, List, [], length, map, take, Option, IfSome}
+-- What comes out of a command: its files through the stream, and its text through `out`.
+use Rattle.std.specs.Prelude.{◌≡◌, ◌≢◌, ◌⊎◌, ℕ, List, [], ◌++◌, length, map, flat_map, take, Option, IfSome, Result, IsErrOf}
 use Rattle.prof_base.specs.Causes.{Rose}
 use Rattle.prof_outer.specs.Appends.{AppendsWhole}
 use Rattle.out_stream.specs.AddedParts.{AddsParts}
 use Rattle.out_stream.specs.Parts.{Parts}
+use Rattle.out_stream.specs.declared.stream.Undelivered.{Undelivered}
+use Rattle.out_stream.specs.declared.stream.Undelivered.TheVariants.{Aborted, Failed}
 use Rattle.code_event.specs.ItemFile.{SessionFile}
+use Rattle.item_fold.specs.Delivered.{Delivers}
+use Rattle.item_fold.specs.declared.delivery.FileNote.{FileNote}
+use Rattle.prof_top.specs.PrintedText.{file_line}
 use Rattle.prof_top.specs.Written.{IsWritten}
 
 -- what can be observed of the stream and of `out` at one moment
@@ -29,3 +34,15 @@ pub record IsHandedOut (files : List SessionFile) (text : List SessionFile → L
   pub order : status ≡ 5 → Rose before.stream_faults now.stream_faults ⊎ (delivered ≡ length files)
   pub printed : IsWritten (text (take delivered files)) status before.written now.written before.out_faults now.out_faults
   pub printed_done : status ≡ 0 → AppendsWhole before.written now.written (text (take delivered files))
+
+-- a delivery of files and its answer, by the stream before and now: an abort and a fault were counted
+pub record IsDelivered (files : List SessionFile) (answer : Result (Unit {0}) Undelivered) (notes : List FileNote) (parts parts' : Option Parts) (aborts aborts' faults faults' : ℕ) : Type 0 where
+  pub delivers : Delivers files answer notes parts parts'
+  pub aborted : IsErrOf answer Aborted → Rose aborts aborts'
+  pub failed : IsErrOf answer Failed → Rose faults faults'
+
+-- whatever files were delivered with this answer and these notes, they are handed out with these lines, and a line for each that was delivered whole
+abbrev pub HandsOut : Result (Unit {0}) Undelivered → List ℕ → List FileNote → ℕ → Option (List ℕ) → ℕ → Option (List ℕ) → ℕ → Type 0
+HandsOut answer lines notes status written out_faults written' out_faults' =
+    (files : List SessionFile) (parts parts' : Option Parts) (aborts aborts' faults faults' : ℕ) → IsDelivered files answer notes parts parts' aborts aborts' faults faults'
+    → IsHandedOut files (λ done. lines ++ flat_map file_line done) status (outlets parts aborts faults written out_faults) (outlets parts' aborts' faults' written' out_faults')

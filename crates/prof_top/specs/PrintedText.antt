@@ -1,9 +1,11 @@
--- What is printed of a run.
-use Rattle.std.specs.Prelude.{ℕ, List, [], ◌∷◌, ◌++◌, length, flat_map, count_by, Bool, true, false, codes, decimal, Result, Ok, Err}
-use Rattle.out_stream.specs.declared.stream.Undelivered.{Undelivered}
+-- What is printed of a run, and of a folded item list.
+use Rattle.std.specs.Prelude.{ℕ, List, [], ◌∷◌, ◌++◌, length, flat_map, count_by, Bool, true, false, not, codes, decimal}
 use Rattle.guest_text.specs.declared.instr.Func.{Func}
 use Rattle.guest_machine.specs.PlainMachine.{plain}
+use Rattle.item_fold.specs.declared.delivery.FileNote.{FileNote}
 use Rattle.code_event.specs.ItemFile.{SessionFile}
+use Rattle.code_event.specs.declared.tick.Item.{Item}
+use Rattle.code_event.specs.declared.tick.Item.TheVariants as item
 use Rattle.record_text.specs.Schedule.{is_sampled}
 use Rattle.record_text.specs.ScheduleParts.{ScheduleParts}
 use Rattle.record_text.specs.declared.schedule.EndCause.{EndCause}
@@ -46,6 +48,10 @@ schedule_lines entries = flat_map (λ entry. end_line entry entry.what) entries 
 abbrev pub file_line : SessionFile → List ℕ
 file_line file = codes "file " ++ decimal file.session ++ codes " " ++ decimal (length file.text) ++ codes "\n"
 
+-- the line of a file, by its note
+abbrev pub note_line : FileNote → List ℕ
+note_line note = codes "file " ++ decimal note.session.0 ++ codes " " ++ decimal note.length ++ codes "\n"
+
 -- what is printed of a run and of the files that were delivered: the guest's own text, the lines of the schedule, and a line of each file
 abbrev pub printed_text : List Func → ScheduleParts → List SessionFile → List ℕ
 printed_text funcs schedule files =
@@ -55,7 +61,21 @@ printed_text funcs schedule files =
 abbrev pub one_file : List ℕ → List SessionFile
 one_file text = record { session = 1; text = text } ∷ []
 
--- the files that were delivered, where the stream gave this answer to the one file
-abbrev pub delivered_of : Result (Unit {0}) Undelivered → List ℕ → List SessionFile
-delivered_of (Ok u) text = one_file text
-delivered_of (Err fault) text = []
+abbrev pub is_tick : Item → Bool
+is_tick (item.Event e) = false
+is_tick (item.Tick t) = true
+
+abbrev pub is_event : Item → Bool
+is_event next = not (is_tick next)
+
+-- how many events and how many ticks there are
+abbrev pub kinds_line : ℕ → ℕ → List ℕ
+kinds_line events ticks = codes "items " ++ decimal events ++ codes " " ++ decimal ticks ++ codes "\n"
+
+-- the same of these items; starts and stops of sessions and a finish are events
+abbrev pub items_line : List Item → List ℕ
+items_line items = kinds_line (count_by is_event items) (count_by is_tick items)
+
+-- what is printed of a folded item list and of the files that were delivered
+abbrev pub fold_text : List Item → List SessionFile → List ℕ
+fold_text items files = items_line items ++ flat_map file_line files

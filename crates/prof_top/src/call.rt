@@ -4,19 +4,21 @@ ghost use Rattle.std.specs.List.{AllByRecursion};
 ghost use Rattle.isolate.specs.Fits.{Fits};
 ghost use Rattle.prof_base.specs.Causes.{Rose};
 ghost use Rattle.record_text.specs.Schedule.{IsLegalSchedule};
-ghost use Rattle.prof_top.specs.Command.{IsCommand, NamesProgram};
-ghost use Rattle.prof_top.specs.Held.{LacksFile, HoldsUnreadable, MayReadProgram};
-ghost use Rattle.prof_top.specs.Ending.{status_of};
-ghost use Rattle.prof_top.specs.RunSchedule.{IsDone};
-ghost use Rattle.prof_top.specs.Said.{IsNamed, IsSaid};
-ghost use Rattle.prof_top.specs.Schedules.{OfRun, IsHead, IsAfterRun, IsBeforeRun, HasSchedules};
-ghost use Rattle.prof_top.specs.Status.{IsStatus};
-ghost use Rattle.prof_top.specs.StepClock.{IsStepClock};
+ghost use Rattle.prof_top.specs.Asked.{Kind, AsksFor, AsksForKind, LacksFile, HoldsUnreadable, MayReadAll};
 ghost use Rattle.prof_top.specs.Causes.{IsEndedAs, outside};
+ghost use Rattle.prof_top.specs.Command.{IsCommand, AsksToRun};
+ghost use Rattle.prof_top.specs.Ending.{status_of, IsWorkEnding};
 ghost use Rattle.prof_top.specs.HandedOut.{outlets};
+ghost use Rattle.prof_top.specs.Outcome.{IsAfterWork, IsBeforeWork, IsWorked, HasOutcome};
+ghost use Rattle.prof_top.specs.RunSchedule.{IsHead};
+ghost use Rattle.prof_top.specs.Said.{IsNamed, IsSaid};
+ghost use Rattle.prof_top.specs.Status.{IsStatus, StopsReading, refusal_of};
+ghost use Rattle.prof_top.specs.StepClock.{IsStepClock};
+ghost use Rattle.prof_top.specs.Task.{IsReady, OfRun};
 
 use crate::ending::{Ending, report};
-use crate::load::load;
+use crate::fold::fold;
+use crate::load::{Task, load};
 use crate::recording::{BUDGET, ENTRIES};
 use crate::run::{Ran, run};
 use out_stream::OutputStream;
@@ -28,10 +30,11 @@ use std::alloc::Global;
 /// What a call returns.
 #[derive(Drop)]
 pub struct Outcome {
-    /// The exit status: 0 where the guest halted and all was delivered and written, 1 for words
-    /// that are no command, 2 for a program's text that cannot be read, 3 for a missing file, 4 for
-    /// a file that could not be read, 5 for a stream or a sink that failed, 6 for out of memory,
-    /// and 14 for a stream that aborted.
+    /// The exit status: 0 where the guest halted, if one was run, and all was delivered and
+    /// written, 1 for words that are no command, 2 for a program's text that cannot be read, 3 for a
+    /// missing file, 4 for a file that could not be read, 5 for a stream or a sink that failed, 6 for
+    /// out of memory, 10 for an item list's text that cannot be read, and 14 for a stream that
+    /// aborted.
     pub status: u8,
     /// The schedule of the run that took place: what happened in it, and when. There is none where
     /// nothing ran, and may be none where memory ran out.
@@ -40,8 +43,33 @@ pub struct Outcome {
     pub stream: Box<dyn OutputStream + Send>,
 }
 
-// Loads and runs what the words ask for.
-fn load_and_run<D: Depot, S: OutputStream, O: Sink>(
+// Does what a command line asks for, over the texts that it named.
+fn work<S: OutputStream, O: Sink>(alloc: Global, task: &Task, stream: &mut S, out: &mut O) -> Ran
+    requires { IsReady task.now }
+    // How it may end, and the cause of each.
+    ensures ending { IsWorkEnding result.ending }
+    ensures cannot_write { result.ending ≡ Ending.CannotWrite → Rose (S.stream_faults stream.old) (S.stream_faults stream.new) ⊎ Rose (O.faults out.old) (O.faults out.new) }
+    ensures aborted { result.ending ≡ Ending.Aborted → Rose (S.aborts stream.old) (S.aborts stream.new) }
+
+    // What has come out.
+    ensures worked { IsWorked task.now (status_of result.ending) result.schedules
+        (outlets (S.parts stream.old) (S.aborts stream.old) (S.stream_faults stream.old) (O.written out.old) (O.faults out.old))
+        (outlets (S.parts stream.new) (S.aborts stream.new) (S.stream_faults stream.new) (O.written out.new) (O.faults out.new)) }
+
+    // The stream's size of chunks stays the same, and no count falls.
+    ensures chunk_size { S.chunk_bytes stream.new ≡ S.chunk_bytes stream.old }
+    ensures aborts { S.aborts stream.old ≤ S.aborts stream.new }
+    ensures stream_faults { S.stream_faults stream.old ≤ S.stream_faults stream.new }
+    ensures out_faults { O.faults out.old ≤ O.faults out.new }
+{
+    match task {
+        Task::Run { program, every } => run(alloc, program, *every, stream, out),
+        Task::Fold { list } => fold(alloc, list, stream, out),
+    }
+}
+
+// Reads the texts that the words name, and does what the words ask for.
+fn load_and_work<D: Depot, S: OutputStream, O: Sink>(
     alloc: Global,
     words: &[String],
     depot: &mut D,
@@ -53,17 +81,14 @@ fn load_and_run<D: Depot, S: OutputStream, O: Sink>(
         (outside (D.held depot.new) (D.misses depot.new) (D.read_faults depot.new) (S.aborts stream.new) (S.stream_faults stream.new) (O.faults out.new))
         result.ending }
     ensures command { (status_of result.ending ≡ 1) ⊎ ((status_of result.ending ≡ 6) ⊎ IsCommand (map string_bytes words.now)) }
-    ensures named { IsNamed (map string_bytes words.now) result.ending }
+    ensures readable { StopsReading (status_of result.ending) ⊎ MayReadAll (D.held depot.old) (map string_bytes words.now) }
+    ensures named { IsNamed (map string_bytes words.now) (D.held depot.old) result.ending }
     ensures held { D.held depot.new ≡ D.held depot.old }
 
-    // The schedules, and what has come out.
-    ensures counted { HasSchedules result.ending (length result.schedules) }
-    ensures kept { AllByRecursion (λ schedule. OfRun (map string_bytes words.now) (D.held depot.old)
-        (λ funcs every. IsDone funcs every schedule (status_of result.ending)
+    // What was done, and what has come out.
+    ensures outcome { HasOutcome (map string_bytes words.now) (D.held depot.old) (status_of result.ending) result.schedules
         (outlets (S.parts stream.old) (S.aborts stream.old) (S.stream_faults stream.old) (O.written out.old) (O.faults out.old))
-        (outlets (S.parts stream.new) (S.aborts stream.new) (S.stream_faults stream.new) (O.written out.new) (O.faults out.new)))) result.schedules }
-    ensures no_parts { result.schedules ≡ [] → S.parts stream.new ≡ S.parts stream.old }
-    ensures no_text { result.schedules ≡ [] → O.written out.new ≡ O.written out.old }
+        (outlets (S.parts stream.new) (S.aborts stream.new) (S.stream_faults stream.new) (O.written out.new) (O.faults out.new)) }
 
     // Of what was handed in, the size of chunks stays the same, and no count falls.
     ensures chunk_size { S.chunk_bytes stream.new ≡ S.chunk_bytes stream.old }
@@ -74,7 +99,7 @@ fn load_and_run<D: Depot, S: OutputStream, O: Sink>(
     ensures out_faults { O.faults out.old ≤ O.faults out.new }
 {
     match load(alloc, words, depot) {
-        Ok(loaded) => run(alloc, &loaded.program, loaded.every, stream, out),
+        Ok(task) => work(alloc, &task, stream, out),
         Err(ending) => Ran {
             ending,
             schedules: Sequence::new(alloc),
@@ -96,17 +121,14 @@ pub(crate) fn once<D: Depot, S: OutputStream, O: Sink, E: Sink>(
         (outside (D.held depot.new) (D.misses depot.new) (D.read_faults depot.new) (S.aborts stream.new) (S.stream_faults stream.new) (O.faults out.new))
         result.ending }
     ensures command { (status_of result.ending ≡ 1) ⊎ ((status_of result.ending ≡ 6) ⊎ IsCommand (map string_bytes words.now)) }
-    ensures said { IsSaid (map string_bytes words.now) (status_of result.ending) (E.written err.old) (E.written err.new) (E.faults err.old) (E.faults err.new) }
+    ensures readable { StopsReading (status_of result.ending) ⊎ MayReadAll (D.held depot.old) (map string_bytes words.now) }
+    ensures said { IsSaid (map string_bytes words.now) (D.held depot.old) (status_of result.ending) (E.written err.old) (E.written err.new) (E.faults err.old) (E.faults err.new) }
     ensures held { D.held depot.new ≡ D.held depot.old }
 
-    // The schedules, and what has come out.
-    ensures counted { HasSchedules result.ending (length result.schedules) }
-    ensures kept { AllByRecursion (λ schedule. OfRun (map string_bytes words.now) (D.held depot.old)
-        (λ funcs every. IsDone funcs every schedule (status_of result.ending)
+    // What was done, and what has come out.
+    ensures outcome { HasOutcome (map string_bytes words.now) (D.held depot.old) (status_of result.ending) result.schedules
         (outlets (S.parts stream.old) (S.aborts stream.old) (S.stream_faults stream.old) (O.written out.old) (O.faults out.old))
-        (outlets (S.parts stream.new) (S.aborts stream.new) (S.stream_faults stream.new) (O.written out.new) (O.faults out.new)))) result.schedules }
-    ensures no_parts { result.schedules ≡ [] → S.parts stream.new ≡ S.parts stream.old }
-    ensures no_text { result.schedules ≡ [] → O.written out.new ≡ O.written out.old }
+        (outlets (S.parts stream.new) (S.aborts stream.new) (S.stream_faults stream.new) (O.written out.new) (O.faults out.new)) }
 
     // Of what was handed in, the size of chunks stays the same, and no count falls.
     ensures chunk_size { S.chunk_bytes stream.new ≡ S.chunk_bytes stream.old }
@@ -117,7 +139,7 @@ pub(crate) fn once<D: Depot, S: OutputStream, O: Sink, E: Sink>(
     ensures out_faults { O.faults out.old ≤ O.faults out.new }
     ensures err_faults { E.faults err.old ≤ E.faults err.new }
 {
-    let ran = load_and_run(alloc, words, depot, stream, out);
+    let ran = load_and_work(alloc, words, depot, stream, out);
     let ending = report(alloc, ran.ending, err);
     Ran {
         ending,
@@ -132,6 +154,9 @@ pub(crate) fn once<D: Depot, S: OutputStream, O: Sink, E: Sink>(
 /// its steps as microseconds, with one session from the first step to the end. It takes a sample
 /// after s steps, for each s that is a multiple of EVERY, from EVERY on. It delivers the session's
 /// file to the stream, prints to `out`, and returns the run's schedule.
+///
+/// `fold ITEMS` reads the item list under the name ITEMS, delivers the file of each session that the
+/// list ends, in the order in which they end, and prints to `out`.
 pub fn cpuprof_once<D: Depot, O: Sink, E: Sink>(
     alloc: Global,
     words: &[String],
@@ -146,21 +171,26 @@ pub fn cpuprof_once<D: Depot, O: Sink, E: Sink>(
     ensures usage { result.status ≡ 1 → ¬ IsCommand (map string_bytes words.now) }
     ensures command { (result.status ≡ 1) ⊎ ((result.status ≡ 6) ⊎ IsCommand (map string_bytes words.now)) }
 
-    // The program's text cannot be read.
-    ensures refused { result.status ≡ 2 → NamesProgram (map string_bytes words.now) (HoldsUnreadable (D.held depot.old)) }
-    ensures readable { (result.status ≡ 2) ⊎ ((result.status ≡ 3) ⊎ ((result.status ≡ 4) ⊎ ((result.status ≡ 6)
-        ⊎ MayReadProgram (D.held depot.old) (map string_bytes words.now)))) }
+    // A text that the words name cannot be read: 2 for a program's text, 10 for an item list's.
+    ensures refused { (kind : Kind) → result.status ≡ refusal_of kind → AsksForKind (map string_bytes words.now) kind (HoldsUnreadable (D.held depot.old)) }
+    ensures readable { StopsReading result.status ⊎ MayReadAll (D.held depot.old) (map string_bytes words.now) }
 
     // A fault of what was handed in.
     ensures missing { result.status ≡ 3 → Rose (D.misses depot.old) (D.misses depot.new) }
-    ensures absent { result.status ≡ 3 → NamesProgram (map string_bytes words.now) (LacksFile (D.held depot.old)) }
+    ensures absent { result.status ≡ 3 → AsksFor (map string_bytes words.now) (λ text. LacksFile (D.held depot.old) text.name) }
     ensures read_fault { result.status ≡ 4 → Rose (D.read_faults depot.old) (D.read_faults depot.new) }
     ensures write_fault { result.status ≡ 5 → Rose (stream_faults stream) (stream_faults result.stream) ⊎ Rose (O.faults out.old) (O.faults out.new) }
     ensures aborted { result.status ≡ 14 → Rose (aborts stream) (aborts result.stream) }
 
-    // The schedule of the run.
-    ensures ran { IsAfterRun result.status → length result.schedules ≡ 1 }
-    ensures stopped { IsBeforeRun result.status → result.schedules ≡ [] }
+    // What the words ask for was done, and what came of it was handed out: the files through the
+    // stream, the text through `out`, and the schedules. Or nothing was done, and nothing came out.
+    ensures outcome { HasOutcome (map string_bytes words.now) (D.held depot.old) result.status result.schedules
+        (outlets (parts stream) (aborts stream) (stream_faults stream) (O.written out.old) (O.faults out.old))
+        (outlets (parts result.stream) (aborts result.stream) (stream_faults result.stream) (O.written out.new) (O.faults out.new)) }
+
+    // The schedule of a run.
+    ensures ran { AsksToRun (map string_bytes words.now) → IsAfterWork result.status → length result.schedules ≡ 1 }
+    ensures stopped { IsBeforeWork result.status → result.schedules ≡ [] }
     ensures one { length result.schedules ≤ 1 }
     ensures legal { AllByRecursion IsLegalSchedule result.schedules }
     ensures fits { AllByRecursion (λ schedule. OfRun (map string_bytes words.now) (D.held depot.old) (λ funcs every. Fits funcs schedule)) result.schedules }
@@ -168,17 +198,8 @@ pub fn cpuprof_once<D: Depot, O: Sink, E: Sink>(
     ensures clock { (result.status ≡ 6) ⊎ AllByRecursion (λ schedule. OfRun (map string_bytes words.now) (D.held depot.old)
         (λ funcs every. IsStepClock funcs every BUDGET ENTRIES schedule.entries)) result.schedules }
 
-    // All of that for one and the same program, and what has come out of its run: its files through
-    // the stream, and its text through `out`. Nothing has come out where nothing ran.
-    ensures handed { AllByRecursion (λ schedule. OfRun (map string_bytes words.now) (D.held depot.old)
-        (λ funcs every. IsDone funcs every schedule result.status
-        (outlets (parts stream) (aborts stream) (stream_faults stream) (O.written out.old) (O.faults out.old))
-        (outlets (parts result.stream) (aborts result.stream) (stream_faults result.stream) (O.written out.new) (O.faults out.new)))) result.schedules }
-    ensures no_parts { result.schedules ≡ [] → parts result.stream ≡ parts stream }
-    ensures no_text { result.schedules ≡ [] → O.written out.new ≡ O.written out.old }
-
     // The line of error.
-    ensures said { IsSaid (map string_bytes words.now) result.status (E.written err.old) (E.written err.new) (E.faults err.old) (E.faults err.new) }
+    ensures said { IsSaid (map string_bytes words.now) (D.held depot.old) result.status (E.written err.old) (E.written err.new) (E.faults err.old) (E.faults err.new) }
 
     // What was handed in is returned: the depot's files and the size of chunks stay the same, and
     // no count falls.

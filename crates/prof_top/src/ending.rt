@@ -2,18 +2,19 @@
 ghost use Rattle.std.specs.Prelude.{◌≡◌, ◌⊎◌, ◌≤◌, IfOk, OnOk, IsErrOf, string_bytes};
 ghost use Rattle.prof_base.specs.Causes.{Rose};
 ghost use Rattle.prof_outer.specs.Appends.{AppendsWhole, AppendsPart};
-ghost use Rattle.prof_top.specs.Ending.{status_of, cause_word, refused_line, line_of, ending_after};
+ghost use Rattle.prof_top.specs.Ending.{status_of, cause_word, refused_line, fault_word, items_refused_line, line_of, ending_after};
 ghost use Rattle.prof_top.specs.Written.{IsWritten};
 
 use guest_text::ProgramCause;
 use prof_base::Text;
 use prof_outer::{Sink, SinkFault};
+use record_text::LineCause;
 use std::alloc::{AllocError, Global};
 
 /// How a call ends, with what its line of error says.
 #[derive(Debug, Drop)]
 pub enum Ending {
-    /// The guest halted, every file was delivered, and the text was written.
+    /// What was asked for was done: every file was delivered, and the text was written.
     Done,
     /// The words are no line of the command table.
     Usage,
@@ -35,6 +36,11 @@ pub enum Ending {
     CannotWrite,
     /// Out of memory.
     Memory,
+    /// The text of the item list cannot be read: the first fault is at this line, counted from 1.
+    ItemsRefused {
+        line: u32,
+        cause: LineCause,
+    },
     /// The stream aborted.
     Aborted,
 }
@@ -67,6 +73,28 @@ fn refused_line(
     Ok(text)
 }
 
+fn fault_word(cause: LineCause) -> &'static str
+    ensures { result.now ≡ fault_word cause }
+{
+    match cause {
+        LineCause::Word => "word",
+        LineCause::Number => "number",
+        LineCause::Order => "order",
+        LineCause::Session => "session",
+        LineCause::Limit => "limit",
+        LineCause::Fit => "fit",
+    }
+}
+
+fn items_refused_line(alloc: Global, line: u32, cause: LineCause) -> Result<String, AllocError>
+    ensures { IfOk result (λ text. string_bytes text ≡ items_refused_line line cause) }
+{
+    let mut text = format!(in alloc; "cpuprof: items line {line}: ")?;
+    text.push_str(fault_word(cause))?;
+    text.push_str("\n")?;
+    Ok(text)
+}
+
 impl Ending {
     /// Returns the exit status.
     pub(crate) fn status(&self) -> u8
@@ -80,6 +108,7 @@ impl Ending {
             Ending::CannotRead { .. } => 4,
             Ending::CannotWrite => 5,
             Ending::Memory => 6,
+            Ending::ItemsRefused { .. } => 10,
             Ending::Aborted => 14,
         }
     }
@@ -94,6 +123,7 @@ impl Ending {
             Ending::ProgramRefused { name, line, cause } => refused_line(
                 alloc, name, *line, *cause,
             ),
+            Ending::ItemsRefused { line, cause } => items_refused_line(alloc, *line, *cause),
             Ending::Missing { name } => {
                 let name = name.as_str();
                 format!(in alloc; "cpuprof: no file {name}\n")

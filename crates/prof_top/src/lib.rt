@@ -3,10 +3,12 @@
 
 mod call;
 mod ending;
+mod fold;
 pub mod laws;
 mod load;
 mod machine;
 mod printing;
+mod printout;
 mod recording;
 mod run;
 mod words;

@@ -1,10 +1,10 @@
-// What is printed of a run.
+// The lines that are printed.
 ghost use Rattle.std.specs.Prelude.{◌≡◌, ◌≤◌, ◌++◌, length, flat_map, count_by, IfOk, OnOk, string_bytes};
 ghost use Rattle.record_text.specs.Schedule.{is_sampled};
-ghost use Rattle.prof_top.specs.PrintedText.{end_word, end_line, is_dropped, counts_line, samples_line, schedule_lines, file_line, delivered_of};
+ghost use Rattle.prof_top.specs.PrintedText.{end_word, end_line, is_dropped, counts_line, samples_line, schedule_lines, is_tick, kinds_line, items_line, note_line};
 
-use crate::recording::SESSION;
-use out_stream::Undelivered;
+use code_event::Item;
+use item_fold::FileNote;
 use record_text::{EndCause, Schedule, ScheduleEntry, What};
 use std::alloc::{AllocError, Global};
 
@@ -93,20 +93,64 @@ pub(crate) fn schedule_lines(alloc: Global, schedule: &Schedule) -> Result<Strin
     Ok(text)
 }
 
-/// Returns these lines, with the line of the run's one file where that was delivered.
-pub(crate) fn printed(
+fn is_tick(item: &Item) -> bool
+    ensures { result ≡ is_tick item.now }
+{
+    match item {
+        Item::Tick(_) => true,
+        Item::Event(_) => false,
+    }
+}
+
+// Counts the ticks.
+fn ticks(items: &[Item]) -> usize
+    ensures { result ≡ count_by is_tick items.now }
+{
+    let mut ticks = 0;
+    for item in items {
+        if is_tick(item) {
+            ticks += 1;
+        }
+    }
+    ticks
+}
+
+fn kinds_line(alloc: Global, events: usize, ticks: usize) -> Result<String, AllocError>
+    ensures { IfOk result (λ text. string_bytes text ≡ kinds_line events ticks) }
+{
+    let line = format!(in alloc; "items {events} {ticks}\n")?;
+    Ok(line)
+}
+
+/// Returns the line that says how many events and how many ticks there are.
+#[tactic(auto, using(crate::proofs::TicksAndEvents::ticks_and_events))]
+pub(crate) fn items_line(alloc: Global, items: &[Item]) -> Result<String, AllocError>
+    ensures { IfOk result (λ text. string_bytes text ≡ items_line items.now) }
+{
+    let ticks = ticks(items);
+    kinds_line(alloc, items.len() - ticks, ticks)
+}
+
+// Adds the line of a file that was delivered.
+fn put_file_line(alloc: Global, text: &mut String, note: &FileNote) -> Result<(), AllocError>
+    ensures { OnOk result (string_bytes text.new ≡ string_bytes text.old ++ note_line note.now) }
+{
+    let (session, length) = (note.session.0, note.length);
+    let line = format!(in alloc; "file {session} {length}\n")?;
+    text.push_str(line.as_str())
+}
+
+/// Returns these lines, and after them a line for each file that was delivered.
+pub(crate) fn with_file_lines(
     alloc: Global,
     lines: &str,
-    delivered: Result<(), Undelivered>,
-    file: &[u8],
+    notes: &[FileNote],
 ) -> Result<String, AllocError>
-    ensures { IfOk result (λ text. string_bytes text ≡ lines.now ++ flat_map file_line (delivered_of delivered file.now)) }
+    ensures { IfOk result (λ text. string_bytes text ≡ lines.now ++ flat_map note_line notes.now) }
 {
     let mut text = String::from_str(alloc, lines)?;
-    if let Ok(()) = delivered {
-        let (session, length) = (SESSION.0, file.len());
-        let line = format!(in alloc; "file {session} {length}\n")?;
-        text.push_str(line.as_str())?;
+    for note in notes {
+        put_file_line(alloc, &mut text, note)?;
     }
     Ok(text)
 }

@@ -1,18 +1,24 @@
 // The words of the command line.
-ghost use Rattle.std.specs.Prelude.{◌≡◌, ◌≤◌, ◌∷◌, [], ℕ, ◌↔◌, ◌^◌, ◌<◌, IsTrue, IfOk, OnOk, Some, IfSome, IsErrOf, map, decimal, string_bytes, bytes_eq};
-ghost use Rattle.prof_top.specs.Command.{IsName, IsRun, IsCommand};
+ghost use Rattle.std.specs.Prelude.{◌≡◌, ◌≤◌, ◌∷◌, [], ℕ, ◌^◌, ◌<◌, IfOk, OnOk, Some, IfSome, IsErrOf, map, decimal, string_bytes};
+ghost use Rattle.prof_top.specs.Command.{IsName, Means, IsCommand};
 
 use prof_base::{MAX_INTERVAL, Text, TextRefused, is_decimal};
 use std::alloc::Global;
 
-/// What `run PROG EVERY` asks for.
+/// A line of the command table.
 #[derive(Drop)]
-pub(crate) struct RunCommand {
-    /// The name of the program's text in the depot.
-    pub program: Text,
-    /// The interval of the session and the base of the isolate, in microseconds, from 1 to
-    /// 1,000,000,000.
-    pub every: u32,
+pub enum CommandLine {
+    /// `run PROGRAM EVERY`: runs the program whose text has this name in the depot.
+    Run {
+        program: Text,
+        /// The interval of the session and the base of the isolate, in microseconds, from 1 to
+        /// 1,000,000,000.
+        every: u32,
+    },
+    /// `fold ITEMS`: gives the files of the item list whose text has this name in the depot.
+    Fold {
+        items: Text,
+    },
 }
 
 /// Why words were not taken as a command.
@@ -63,9 +69,14 @@ fn number(word: &str, most: u32) -> Option<u32>
     }
 }
 
-// Reads the command that three words spell.
-fn run_of(alloc: Global, verb: &str, program: &str, every: &str) -> Result<RunCommand, WordsRefused>
-    ensures ok { IfOk result (λ run. IsRun (verb.now ∷ program.now ∷ every.now ∷ []) run.program run.every) }
+// Reads `run PROGRAM EVERY`.
+fn run_of(
+    alloc: Global,
+    verb: &str,
+    program: &str,
+    every: &str,
+) -> Result<CommandLine, WordsRefused>
+    ensures ok { IfOk result (Means (verb.now ∷ program.now ∷ every.now ∷ [])) }
     ensures usage { IsErrOf result WordsRefused.Usage → ¬ IsCommand (verb.now ∷ program.now ∷ every.now ∷ []) }
 {
     if verb != "run" {
@@ -75,16 +86,29 @@ fn run_of(alloc: Global, verb: &str, program: &str, every: &str) -> Result<RunCo
         return Err(WordsRefused::Usage);
     };
     let program = name(alloc, program.as_bytes())?;
-    Ok(RunCommand { program, every })
+    Ok(CommandLine::Run { program, every })
 }
 
-/// Reads the command that the words spell.
-pub(crate) fn command(alloc: Global, words: &[String]) -> Result<RunCommand, WordsRefused>
-    ensures ok { IfOk result (λ run. IsRun (map string_bytes words.now) run.program run.every) }
+// Reads `fold ITEMS`.
+fn fold_of(alloc: Global, verb: &str, items: &str) -> Result<CommandLine, WordsRefused>
+    ensures ok { IfOk result (Means (verb.now ∷ items.now ∷ [])) }
+    ensures usage { IsErrOf result WordsRefused.Usage → ¬ IsCommand (verb.now ∷ items.now ∷ []) }
+{
+    if verb != "fold" {
+        return Err(WordsRefused::Usage);
+    }
+    let items = name(alloc, items.as_bytes())?;
+    Ok(CommandLine::Fold { items })
+}
+
+/// Reads the line of the command table that the words are.
+pub(crate) fn command_line(alloc: Global, words: &[String]) -> Result<CommandLine, WordsRefused>
+    ensures ok { IfOk result (Means (map string_bytes words.now)) }
     ensures usage { IsErrOf result WordsRefused.Usage → ¬ IsCommand (map string_bytes words.now) }
 {
     match words {
         [verb, program, every] => run_of(alloc, verb.as_str(), program.as_str(), every.as_str()),
+        [verb, items] => fold_of(alloc, verb.as_str(), items.as_str()),
         _ => Err(WordsRefused::Usage),
     }
 }

@@ -1,28 +1,51 @@
-use Rattle.std.proofs.Common.{inr, map, string_bytes}
+use Rattle.std.proofs.Common.{inl, inr, map, string_bytes}
 use Rattle.isolate.specs.Fits.{Fits}
-use Rattle.prof_top.proofs.Returned.{each_of, returned_with}
+use Rattle.prof_top.proofs.Outcomes.{all_legal, at_most_one, each_of, none_before, one_after, outcome_with, run_or_none}
+use Rattle.prof_top.proofs.Lines.{readable_at_last}
 use Rattle.prof_top.proofs.call.cpuprof_once.Goals as goal
 use Rattle.prof_top.specs.Ending.{status_of}
-use Rattle.prof_top.specs.Schedules.{IsHead}
+use Rattle.prof_top.specs.RunSchedule.{IsHead}
 use Rattle.prof_top.specs.StepClock.{IsStepClock}
 use Rattle.prof_top.specs.declared.recording.TheConstants.{BUDGET, ENTRIES}
 
+pub returns-clause-readable : goal.returns-clause-readable
+returns-clause-readable g c =
+    readable_at_last (map string_bytes c.args.words.now) (g.D.Depot.held c.args.depot.now) (status_of c.once-ran.result.ending) c.status.result (inl c.status.ensures) c.once-ran.ensures.readable
+
+pub returns-clause-outcome : goal.returns-clause-outcome
+returns-clause-outcome g c =
+    outcome_with (map string_bytes c.args.words.now) (g.D.Depot.held c.args.depot.now) (status_of c.once-ran.result.ending) c.status.result c.once-ran.result.schedules _ _ c.status.ensures c.once-ran.ensures.outcome
+
+pub returns-clause-ran : goal.returns-clause-ran
+returns-clause-ran g c asks is =
+    one_after (map string_bytes c.args.words.now) (g.D.Depot.held c.args.depot.now) c.status.result c.once-ran.result.schedules _ _ (returns-clause-outcome g c) asks is
+
+pub returns-clause-stopped : goal.returns-clause-stopped
+returns-clause-stopped g c is =
+    none_before (map string_bytes c.args.words.now) (g.D.Depot.held c.args.depot.now) c.status.result c.once-ran.result.schedules _ _ (returns-clause-outcome g c) is
+
+pub returns-clause-one : goal.returns-clause-one
+returns-clause-one g c =
+    at_most_one (map string_bytes c.args.words.now) (g.D.Depot.held c.args.depot.now) c.once-ran.result.schedules
+    (run_or_none (map string_bytes c.args.words.now) (g.D.Depot.held c.args.depot.now) c.status.result c.once-ran.result.schedules _ _ (returns-clause-outcome g c))
+
+pub returns-clause-legal : goal.returns-clause-legal
+returns-clause-legal g c =
+    all_legal (map string_bytes c.args.words.now) (g.D.Depot.held c.args.depot.now) c.once-ran.result.schedules
+    (run_or_none (map string_bytes c.args.words.now) (g.D.Depot.held c.args.depot.now) c.status.result c.once-ran.result.schedules _ _ (returns-clause-outcome g c))
+
 pub returns-clause-fits : goal.returns-clause-fits
 returns-clause-fits g c =
-    each_of (map string_bytes c.args.words.now) (g.D.Depot.held c.args.depot.now) (status_of c.once-ran.result.ending) _ _ c.once-ran.result.schedules
-    (λ funcs every schedule. Fits funcs schedule) (λ funcs every schedule is. is.run.fits) c.once-ran.ensures.kept
+    each_of (map string_bytes c.args.words.now) (g.D.Depot.held c.args.depot.now) c.once-ran.result.schedules (λ funcs every schedule. Fits funcs schedule) (λ funcs every schedule is. is.fits)
+    (run_or_none (map string_bytes c.args.words.now) (g.D.Depot.held c.args.depot.now) c.status.result c.once-ran.result.schedules _ _ (returns-clause-outcome g c))
 
 pub returns-clause-head : goal.returns-clause-head
 returns-clause-head g c =
-    each_of (map string_bytes c.args.words.now) (g.D.Depot.held c.args.depot.now) (status_of c.once-ran.result.ending) _ _ c.once-ran.result.schedules
-    (λ funcs every schedule. IsHead every schedule) (λ funcs every schedule is. is.run.head) c.once-ran.ensures.kept
+    each_of (map string_bytes c.args.words.now) (g.D.Depot.held c.args.depot.now) c.once-ran.result.schedules (λ funcs every schedule. IsHead every schedule) (λ funcs every schedule is. is.head)
+    (run_or_none (map string_bytes c.args.words.now) (g.D.Depot.held c.args.depot.now) c.status.result c.once-ran.result.schedules _ _ (returns-clause-outcome g c))
 
 pub returns-clause-clock : goal.returns-clause-clock
 returns-clause-clock g c =
-    inr (each_of (map string_bytes c.args.words.now) (g.D.Depot.held c.args.depot.now) (status_of c.once-ran.result.ending) _ _ c.once-ran.result.schedules
-    (λ funcs every schedule. IsStepClock funcs every BUDGET ENTRIES schedule.entries) (λ funcs every schedule is. is.run.clock) c.once-ran.ensures.kept)
-
-pub returns-clause-handed : goal.returns-clause-handed
-returns-clause-handed g c =
-    returned_with (map string_bytes c.args.words.now) (g.D.Depot.held c.args.depot.now) (status_of c.once-ran.result.ending) c.status.result _ _ c.once-ran.result.schedules
-    c.status.ensures c.once-ran.ensures.kept
+    inr (each_of (map string_bytes c.args.words.now) (g.D.Depot.held c.args.depot.now) c.once-ran.result.schedules
+    (λ funcs every schedule. IsStepClock funcs every BUDGET ENTRIES schedule.entries) (λ funcs every schedule is. is.clock)
+    (run_or_none (map string_bytes c.args.words.now) (g.D.Depot.held c.args.depot.now) c.status.result c.once-ran.result.schedules _ _ (returns-clause-outcome g c)))

@@ -1,10 +1,12 @@
-use Rattle.std.proofs.Common.{rules, string_bytes}
-use Rattle.prof_top.proofs.Handed.{run_handed}
+use Rattle.std.proofs.Common.{inl, rules, string_bytes, []}
+use Rattle.prof_top.proofs.Folds.{delivered_as, none_delivered, run_done}
 use Rattle.prof_top.proofs.run.run.Goals as goal
-use Rattle.prof_top.specs.Ending.{status_of}
 
-pub returns-clause-kept : goal.returns-clause-kept
-returns-clause-kept g c =
+pub returns-clause-worked : goal.returns-clause-worked
+returns-clause-worked g c =
     let recorded = c.in-Ok.recorded in
-    run_handed c.args.program.now c.args.every recorded.schedules (string_bytes recorded.lines) recorded.file c.as_str-lines.result.now c.as_slice-file.result.now
-    (status_of c.hand_out-ending.result) _ _ c.in-Ok.ensures.run (search rules) (search rules) c.hand_out-ending.ensures.handed
+    let delivered = c.deliver_file-delivered in
+    inl (run_done c.args.program.now c.args.every recorded.schedules c.print_out-ending.result (string_bytes recorded.lines) recorded.file c.as_str-lines.result.now c.as_slice-file.result.now _ _
+    c.print_out-ending.ensures.ending c.in-Ok.ensures.run (search rules) (search rules)
+    (c.print_out-ending.ensures.handed _ _ _ _ _ _ _
+    (delivered_as _ delivered.result delivered.new.notes c.as_slice.result.now _ _ _ _ _ _ (search rules) (delivered.ensures.delivers [] _ (none_delivered c.new-notes.result _ (search rules))) delivered.ensures.aborted delivered.ensures.failed)))

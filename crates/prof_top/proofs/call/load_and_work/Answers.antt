@@ -1,0 +1,17 @@
+use Rattle.std.proofs.Common.{inl, inr, map, string_bytes}
+use Rattle.prof_top.proofs.Lines.{may_read_all, stops_reading}
+use Rattle.prof_top.proofs.Outcomes.{worked_on}
+use Rattle.prof_top.proofs.call.load_and_work.Goals as goal
+use Rattle.prof_top.specs.Ending.{status_of}
+
+pub returns-in-Ok-clause-outcome : goal.returns-in-Ok-clause-outcome
+returns-in-Ok-clause-outcome g c =
+    worked_on (map string_bytes c.args.words.now) (g.D.Depot.held c.args.depot.now) c.in-Ok.task (status_of c.work.result.ending) c.work.result.schedules _ _ c.in-Ok.ensures.read c.work.ensures.worked
+
+pub returns-in-Ok-clause-readable : goal.returns-in-Ok-clause-readable
+returns-in-Ok-clause-readable g c = inr (may_read_all (map string_bytes c.args.words.now) (g.D.Depot.held c.args.depot.now) c.in-Ok.ensures.ok)
+
+pub returns-in-Err-clause-readable : goal.returns-in-Err-clause-readable
+returns-in-Err-clause-readable g c =
+    inl (stops_reading (map string_bytes c.args.words.now) (g.D.Depot.held c.args.depot.now) (g.D.Depot.misses c.args.depot.now) (g.D.Depot.misses c.load.new.depot)
+    (g.D.Depot.read_faults c.args.depot.now) (g.D.Depot.read_faults c.load.new.depot) c.in-Err.ending c.in-Err.ensures.err)

@@ -1,0 +1,76 @@
+// The printed text of a command, once its files were delivered.
+ghost use Rattle.std.specs.Prelude.{◌≡◌, ◌⊎◌, ◌≤◌, ◌++◌, OnOk, IsErrOf, flat_map};
+ghost use Rattle.prof_base.specs.Causes.{Rose};
+ghost use Rattle.prof_outer.specs.Appends.{AppendsWhole, AppendsPart};
+ghost use Rattle.prof_top.specs.Ending.{work_ending, status_of, IsWorkEnding};
+ghost use Rattle.prof_top.specs.HandedOut.{HandsOut};
+ghost use Rattle.prof_top.specs.PrintedText.{note_line};
+
+use crate::ending::Ending;
+use crate::printing::with_file_lines;
+use item_fold::FileNote;
+use out_stream::Undelivered;
+use prof_outer::{Sink, SinkFault};
+use std::alloc::Global;
+
+// Returns how a call ends, by how its files were delivered and its text was written. Out of memory
+// comes first, then the stream, then the text.
+fn work_ending(delivered: Result<(), Undelivered>, written: Result<(), SinkFault>) -> Ending
+    ensures { result ≡ work_ending delivered written }
+{
+    match (delivered, written) {
+        (Err(Undelivered::Memory), _) | (_, Err(SinkFault::Memory)) => Ending::Memory,
+        (Err(Undelivered::Aborted), _) => Ending::Aborted,
+        (Err(Undelivered::Failed), _) | (Ok(()), Err(SinkFault::Failed)) => Ending::CannotWrite,
+        (Ok(()), Ok(())) => Ending::Done,
+    }
+}
+
+// Prints the lines, and a line for each file that was delivered. It does nothing once memory has run
+// out.
+fn print<O: Sink>(
+    alloc: Global,
+    delivered: Result<(), Undelivered>,
+    lines: &str,
+    notes: &[FileNote],
+    out: &mut O,
+) -> Result<(), SinkFault>
+    ensures ok { OnOk result (AppendsWhole (O.written out.old) (O.written out.new) (lines.now ++ flat_map note_line notes.now)) }
+    ensures room { IsErrOf delivered Undelivered.Memory → IsErrOf result SinkFault.Memory }
+    ensures part { IsErrOf result SinkFault.Failed → AppendsPart (O.written out.old) (O.written out.new) (lines.now ++ flat_map note_line notes.now) }
+    ensures memory { IsErrOf result SinkFault.Memory → O.written out.new ≡ O.written out.old }
+
+    // Each fault is counted, and the count never falls.
+    ensures failed { IsErrOf result SinkFault.Failed → Rose (O.faults out.old) (O.faults out.new) }
+    ensures faults { O.faults out.old ≤ O.faults out.new }
+{
+    if let Err(Undelivered::Memory) = delivered {
+        return Err(SinkFault::Memory);
+    }
+    let Ok(text) = with_file_lines(alloc, lines, notes) else {
+        return Err(SinkFault::Memory);
+    };
+    out.write_all(alloc, text.as_bytes())
+}
+
+/// Prints the lines of a command and a line for each file that was delivered, and returns how the
+/// call ends.
+pub(crate) fn print_out<O: Sink>(
+    alloc: Global,
+    delivered: Result<(), Undelivered>,
+    lines: &str,
+    notes: &[FileNote],
+    out: &mut O,
+) -> Ending
+    // How it may end, and the cause of each.
+    ensures ending { IsWorkEnding result }
+    ensures cannot_write { result ≡ Ending.CannotWrite → IsErrOf delivered Undelivered.Failed ⊎ Rose (O.faults out.old) (O.faults out.new) }
+    ensures aborted { result ≡ Ending.Aborted → IsErrOf delivered Undelivered.Aborted }
+    ensures faults { O.faults out.old ≤ O.faults out.new }
+
+    // What has come out.
+    ensures handed { HandsOut delivered lines.now notes.now (status_of result) (O.written out.old) (O.faults out.old) (O.written out.new) (O.faults out.new) }
+{
+    let written = print(alloc, delivered, lines, notes, out);
+    work_ending(delivered, written)
+}
