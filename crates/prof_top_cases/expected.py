@@ -1,6 +1,7 @@
 #!/usr/bin/env python3
 """Works out what the program of this crate must print, from the rules alone: docs/FORMATS.md says
-what a program's text, a file and the printed text are. It shares nothing with the product.
+what a program's text, a file and the printed text are. Item lists are in items.py. The two share nothing
+with the product.
 
     ./expected.py <data/cases >stdout
 """
@@ -8,7 +9,14 @@ import json
 import re
 import sys
 
+sys.dont_write_bytecode = True  # No folder is to appear beside the script.
+from items import Refused, call_frame, files_of, read_items
+
 SHOWN, SHORT = 1000, 8
+
+
+class Fault(Exception):
+    """The status of a call that did not do its work, and the line of error."""
 
 
 def case_of(block):
@@ -35,16 +43,20 @@ def is_text(word):
     return len(word) <= 200 and all(" " <= letter <= "~" for letter in word)
 
 
+def is_name(word):
+    return is_text(word) and word != "" and word[0] != "-"
+
+
 def command(words):
-    """Returns the program's name and the interval of `run PROG EVERY`, or None."""
-    if len(words) != 3 or words[0] != "run":
+    """Returns the interval of `run PROG EVERY`, 0 for `fold ITEMS`, and None for other words."""
+    if len(words) == 2 and words[0] == "fold" and is_name(words[1]):
+        return 0
+    if len(words) != 3 or words[0] != "run" or not is_name(words[1]):
         return None
-    _, name, every = words
-    if not name or name[0] == "-" or not is_text(name):
-        return None
+    every = words[2]
     if not re.fullmatch(r"[1-9][0-9]*", every) or int(every) > 10**9:
         return None
-    return name, int(every)
+    return int(every)
 
 
 NUMBER = "(0|[1-9][0-9]*)"
@@ -89,13 +101,8 @@ def profile(head, body, every):
     hits = {}
     for step in steps:
         hits[body[step][0]] = hits.get(body[step][0], 0) + 1
-    name, url, script, line, column = head
-
-    def frame(name, script, url, line, column):
-        return {"functionName": name, "scriptId": str(script), "url": url, "lineNumber": line - 1, "columnNumber": column - 1}
-
-    root = {"id": 1, "callFrame": frame("(root)", 0, "", 0, 0), "hitCount": 0, "children": [2]}
-    main = {"id": 2, "callFrame": frame(name, script, url, line, column), "hitCount": len(steps)}
+    root = {"id": 1, "callFrame": call_frame("(root)", "", 0, 0, 0), "hitCount": 0, "children": [2]}
+    main = {"id": 2, "callFrame": call_frame(*head), "hitCount": len(steps)}
     if hits:
         main["positionTicks"] = [{"line": at, "ticks": hits[at]} for at in sorted(hits)]
     times = [0] + steps
@@ -111,65 +118,85 @@ def hash_of(text):
     return value
 
 
-def delivered(case, text):
-    """Returns what is printed of the part, and whether it was taken, aborted or failed."""
-    size = int(case["chunk"])
-    taken, shown = "", ""
-    for number, at in enumerate(range(0, len(text), size), 1):
-        if number == int(case.get("chunk-fails", 0)):
-            return shown, "failed"
-        taken += text[at : at + size]
-        if len(taken) <= SHOWN:
-            shown = taken
-        if number == int(case.get("chunk-aborts", 0)):
-            return shown, "aborted"
-    if len(taken) > SHOWN:
-        shown += f".. {len(taken)} bytes, {hash_of(taken):016x}"
-    return shown + "\n", "taken"
+def delivered(case, files):
+    """Returns what is printed of the parts, how many were delivered whole, and whether the delivery
+    failed or aborted."""
+    size, number, parts = int(case["chunk"]), 0, ""
+    for whole, (_, text) in enumerate(files):
+        taken, shown = "", ""
+        for at in range(0, len(text), size):
+            number += 1
+            if number == int(case.get("chunk-fails", 0)):
+                return parts + shown, whole, "failed"
+            taken += text[at : at + size]
+            if len(taken) <= SHOWN:
+                shown = taken
+            if number == int(case.get("chunk-aborts", 0)):
+                return parts + shown, whole, "aborted"
+        if len(taken) > SHOWN:
+            shown += f".. {len(taken)} bytes, {hash_of(taken):016x}"
+        parts += shown + "\n"
+    return parts, len(files), "whole"
 
 
 def half_if(fails, text):
-    return text[: len(text) // 2] if fails and text else text
+    return text[: len(text) // 2] if fails else text
 
 
-def quoted(text):
-    return json.dumps(text)
+def run(name, text, every):
+    """Returns the files of `run`, each with its session, the lines that are printed before those of the
+    files, and the schedule."""
+    reading = read(text)
+    if isinstance(reading, int):
+        raise Fault(2, f"program {name} line {reading}: word")
+    file, steps, end = profile(*reading, every)
+    entries = [f"  0 0 start 0 {every}"] + [f"  {s} {s} sampled" for s in steps] + [f"  {end} {end} end halt"]
+    schedule = [f"schedule {every} 256 1000000 1048576 entries {len(entries)}"]
+    if len(entries) <= SHORT:
+        schedule += entries
+    return [(1, file)], f"end halt {end}\nsampled {len(steps)} dropped 0\n", schedule
+
+
+def fold(text):
+    """Returns the same of `fold`, which has no schedule."""
+    try:
+        base, items = read_items(text)
+    except Refused as at:
+        raise Fault(10, f"items {at}")
+    ticks = sum(name == "tick" for name, _ in items)
+    return files_of(base, items), f"items {len(items) - ticks} {ticks}\n", []
+
+
+def work(case):
+    """Returns what the command of the case does, as `run` says it."""
+    every = command(case["words"])
+    if every is None:
+        raise Fault(1, "usage")
+    name = case["words"][1]
+    if case.get("read-fails") == "1":
+        raise Fault(4, f"cannot read {name}")
+    if name != case["name"]:
+        raise Fault(3, f"no file {name}")
+    return run(name, case["text"], every) if every else fold(case["text"])
 
 
 def answer(case):
-    status, printed, error, lines, part = 0, "", "", [], ""
-    ran = command(case["words"])
-    reading = None
-    if ran is None:
-        status, error = 1, "usage"
-    elif case.get("read-fails") == "1":
-        status, error = 4, f"cannot read {ran[0]}"
-    elif ran[0] != case["name"]:
-        status, error = 3, f"no file {ran[0]}"
-    else:
-        reading = read(case["text"])
-        if isinstance(reading, int):
-            status, error, reading = 2, f"program {ran[0]} line {reading}: word", None
-    if reading:
-        every = ran[1]
-        text, steps, end = profile(*reading, every)
-        part, how = delivered(case, text)
-        printed = f"end halt {end}\nsampled {len(steps)} dropped 0\n"
-        if how == "taken":
-            printed += f"file 1 {len(text)}\n"
+    status, error, parts, printed, schedule = 0, "", "", "", []
+    try:
+        files, printed, schedule = work(case)
+        parts, whole, how = delivered(case, files)
+        printed += "".join(f"file {session} {len(text)}\n" for session, text in files[:whole])
         out_fails = case.get("out-fails") == "1"
         printed = half_if(out_fails, printed)
         if how == "aborted":
-            status, error = 14, "stream aborted"
-        elif how == "failed" or out_fails:
-            status, error = 5, "cannot write"
-        entries = [f"  0 0 start 0 {every}"] + [f"  {s} {s} sampled" for s in steps] + [f"  {end} {end} end halt"]
-        lines = [f"schedule {every} 256 1000000 1048576 entries {len(entries)}"]
-        if len(entries) <= SHORT:
-            lines += entries
-    error = half_if(case.get("err-fails") == "1", f"cpuprof: {error}\n" if error else "")
-    head = [f"status {status}", f"chunks of {case['chunk']}", f"out {quoted(printed)}", f"err {quoted(error)}"]
-    return f"% {case['title']}\n" + part + "\n".join(head + lines) + "\n"
+            raise Fault(14, "stream aborted")
+        if how == "failed" or out_fails:
+            raise Fault(5, "cannot write")
+    except Fault as fault:
+        status, error = fault.args
+        error = half_if(case.get("err-fails") == "1", f"cpuprof: {error}\n")
+    head = [f"status {status}", f"chunks of {case['chunk']}", f"out {json.dumps(printed)}", f"err {json.dumps(error)}"]
+    return f"% {case['title']}\n" + parts + "\n".join(head + schedule) + "\n"
 
 
 def main():

@@ -1,5 +1,5 @@
-// A case, as it is written in the file of cases: a title, settings of one line each, and the
-// program's text after a line `program`. In that text a line `*N LINE` means N copies of LINE, in
+// A case, as it is written in the file of cases: a title, settings of one line each, and the text of
+// the one file that there is after a line `program`, a program or an item list. In that text a line `*N LINE` means N copies of LINE, in
 // which `@` is the number of the copy, from 1.
 use anyhow::{Result, bail};
 use std::alloc::Global;
@@ -9,8 +9,9 @@ use std::alloc::Global;
 pub(crate) struct Case<'a> {
     pub(crate) title: &'a str,
     pub(crate) words: Vec<String>,
-    /// The name of the program's file.
+    /// The name of the file.
     pub(crate) name: &'a str,
+    /// Its text.
     pub(crate) program: String,
     /// The size of the stream's chunks.
     pub(crate) chunk: u32,
