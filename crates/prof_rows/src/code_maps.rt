@@ -2,25 +2,14 @@
 // hand.
 ghost use Rattle.std.specs.Prelude.{◌≡◌, ◌≤◌, length};
 
-use code_event::{
-    CodeEvent, Entry, FinNode, Finished, Frames, Layout, PathStep, Site, Slot, Tick, Unit, VmState,
-};
+use crate::values::{entry, tick};
+use code_event::{CodeEvent, FinNode, Finished, Layout, PathStep, Site, Slot, Unit, VmState};
 use code_map::{CodeMap, Found};
 use prof_base::{FuncId, Micros, Sequence, SessionId, Text};
 use std::alloc::Global;
 use std::process::Abort;
 use std::test::Fail;
 use symbolizer::paths;
-
-fn entry(alloc: Global, name: &str, line: u32) -> Result<Entry, Fail> {
-    Ok(Entry {
-        name: Text::new(alloc, name.as_bytes())?,
-        url: Text::new(alloc, b"a.js")?,
-        script: 1,
-        line,
-        column: 1,
-    })
-}
 
 // A function that has a slot at each of these lines.
 fn layout(alloc: Global, name: &str, lines: &[u32]) -> Result<Layout, Fail>
@@ -66,25 +55,6 @@ fn inlining(alloc: Global) -> Result<Layout, Fail> {
         slots.push(Slot { unit, index, line })?;
     }
     Ok(Layout::new(units, slots))
-}
-
-fn tick(state: VmState, addresses: &[u32]) -> Tick
-    requires { length addresses.now ≤ Frames.MAX_LEN }
-{
-    let mut frames = Frames::new();
-    for address in addresses {
-        frames.push(*address);
-    }
-    Tick {
-        order: 0,
-        tick_number: 0,
-        time: Micros::new(0),
-        interval: 1000,
-        state,
-        hit: true,
-        only: None,
-        frames,
-    }
 }
 
 fn check_steps(rt: &impl Abort, steps: &[PathStep], expected: &[(&str, u32)]) {
@@ -164,7 +134,7 @@ fn overlapped_code_is_nobodys(rt: HostRuntime) -> Result<(), Fail> {
         ([104, 100], "g", 5),
         ([999, 0], "(program)", 0),
     ] {
-        let found = paths(alloc, &mut map, &tick(VmState::Js, &addresses))?;
+        let found = paths(alloc, &mut map, &tick(0, 1000, VmState::Js, &addresses))?;
         check_steps(&rt, found.leaf.as_slice(), &[(name, 0)]);
         assert_eq!(rt; found.leaf_line, line);
     }
@@ -179,7 +149,7 @@ fn an_inlined_slot_has_a_step_for_each_function(rt: HostRuntime) -> Result<(), F
         start: 200,
         layout: inlining(alloc)?,
     })?;
-    let found = paths(alloc, &mut map, &tick(VmState::Js, &[208, 204]))?;
+    let found = paths(alloc, &mut map, &tick(0, 1000, VmState::Js, &[208, 204]))?;
     check_steps(&rt, found.leaf.as_slice(), &[("f", 0), ("f", 0), ("g", 0)]);
     check_steps(
         &rt,
@@ -187,14 +157,14 @@ fn an_inlined_slot_has_a_step_for_each_function(rt: HostRuntime) -> Result<(), F
         &[("f", 0), ("f", 2), ("g", 3)],
     );
     assert_eq!(rt; found.leaf_line, 9);
-    let found = paths(alloc, &mut map, &tick(VmState::Js, &[208]))?;
+    let found = paths(alloc, &mut map, &tick(0, 1000, VmState::Js, &[208]))?;
     check_steps(&rt, found.caller.as_slice(), &[("f", 0), ("g", 3)]);
     for (state, name) in [
         (VmState::Idle, "(idle)"),
         (VmState::Native, "(program)"),
         (VmState::Gc, "(garbage collector)"),
     ] {
-        let found = paths(alloc, &mut map, &tick(state, &[208]))?;
+        let found = paths(alloc, &mut map, &tick(0, 1000, state, &[208]))?;
         check_steps(&rt, found.caller.as_slice(), &[(name, 0)]);
         assert_eq!(rt; found.leaf_line, 0);
     }

@@ -16,4 +16,8 @@ mod programs;
 #[cfg(test)]
 mod schedules;
 #[cfg(test)]
+mod sessions;
+#[cfg(test)]
 mod trees;
+#[cfg(test)]
+mod values;

@@ -1,11 +1,12 @@
 // What no clause says: that the plain functions succeed. The example and its file were worked out by
 // hand.
-ghost use Rattle.std.specs.Prelude.{◌≡◌, ◌<◌, ◌≤◌, length};
+ghost use Rattle.std.specs.Prelude.{◌≡◌, ◌≤◌, length};
 
+use crate::values::{entry, tick};
 use code_event::{
-    CodeEvent, Entry, EventRecord, Frames, Item, Layout, Mode, Options, Slot, Tick, Unit, VmState,
+    CodeEvent, EventRecord, Frames, Item, Layout, Mode, Options, Slot, Unit, VmState,
 };
-use prof_base::{FuncId, Micros, Sequence, SessionId, Text};
+use prof_base::{FuncId, Micros, Sequence, SessionId};
 use reference_profile::{file, finished_of, seen_items};
 use std::alloc::Global;
 use std::test::Fail;
@@ -18,24 +19,10 @@ fn event(event: CodeEvent) -> Item {
     })
 }
 
-fn tick(time: u64, addresses: &[u32]) -> Item
-    requires time { time < 100 }
-    requires few { length addresses.now ≤ Frames.MAX_LEN }
+fn sample(time: u32, addresses: &[u32]) -> Item
+    requires { length addresses.now ≤ Frames.MAX_LEN }
 {
-    let mut frames = Frames::new();
-    for address in addresses {
-        frames.push(*address);
-    }
-    Item::Tick(Tick {
-        order: 0,
-        tick_number: 0,
-        time: Micros::new(time),
-        interval: 1000,
-        state: VmState::Js,
-        hit: true,
-        only: None,
-        frames,
-    })
+    Item::Tick(tick(time, 1000, VmState::Js, addresses))
 }
 
 fn slot(line: u32) -> Slot
@@ -50,17 +37,10 @@ fn slot(line: u32) -> Slot
 
 // Creates the code of a function that begins at the line of its only instruction.
 fn create(alloc: Global, start: u32, func: FuncId, name: &str, line: u32) -> Result<Item, Fail> {
-    let entry = Entry {
-        name: Text::new(alloc, name.as_bytes())?,
-        url: Text::new(alloc, b"a.js")?,
-        script: 1,
-        line,
-        column: 1,
-    };
     let mut units = Sequence::new(alloc);
     units.push(Unit {
         func,
-        entry,
+        entry: entry(alloc, name, line)?,
         parent: None,
     })?;
     let mut slots = Sequence::new(alloc);
@@ -87,9 +67,9 @@ fn overlap(alloc: Global, session: SessionId) -> Result<Sequence<Item>, Fail> {
         options,
         time,
     }))?;
-    items.push(tick(10, &[102]))?;
-    items.push(tick(20, &[104, 102]))?;
-    items.push(tick(30, &[999]))?;
+    items.push(sample(10, &[102]))?;
+    items.push(sample(20, &[104, 102]))?;
+    items.push(sample(30, &[999]))?;
     let time = Micros::new(40);
     items.push(event(CodeEvent::Stop { session, time }))?;
     Ok(items)

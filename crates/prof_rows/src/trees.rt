@@ -1,6 +1,7 @@
 // What no clause says: that a tree grows and is listed where memory is there, at the greatest depth.
-use code_event::{Entry, PathStep};
-use prof_base::{Sequence, Text};
+use crate::values::entry;
+use code_event::PathStep;
+use prof_base::Sequence;
 use profile_tree::Tree;
 use std::alloc::Global;
 use std::test::Fail;
@@ -9,14 +10,10 @@ use std::test::Fail;
 fn deep(alloc: Global, depth: u32) -> Result<Sequence<PathStep>, Fail> {
     let mut path = Sequence::new(alloc);
     for call_line in 0..depth {
-        let entry = Entry {
-            name: Text::new(alloc, b"f")?,
-            url: Text::new(alloc, b"a.js")?,
-            script: 1,
-            line: 1,
-            column: 1,
-        };
-        path.push(PathStep { entry, call_line })?;
+        path.push(PathStep {
+            entry: entry(alloc, "f", 1)?,
+            call_line,
+        })?;
     }
     Ok(path)
 }
