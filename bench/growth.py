@@ -1,12 +1,14 @@
 #!/usr/bin/env python3
-"""Times `cpuprof fold` on item lists of growing size.
+"""Times the program on inputs of growing size.
 
-    bench/fold.py [TICKS]
+    bench/growth.py [TICKS]
 
-makes three lists, of TICKS, 4 * TICKS and 16 * TICKS ticks (62,500 by default), each tick with 30
-frames over 300 functions, and folds each five times. It prints the processor time of the fastest of
-the five, and what that is for each tick and for each byte of the list: these stay the same where the
-cost grows with the size and no faster. The lists are made anew each time, in a folder of their own.
+makes three item lists, of TICKS, 4 * TICKS and 16 * TICKS ticks (62,500 by default), each tick with 30
+frames over 300 functions, and folds them; and three guest programs, of 256, 1,024 and 4,096
+instructions, and runs them with a sample at each step. Each is done five times. It prints the processor
+time of the fastest of the five, and what that is for each tick and for each byte of the input: these
+stay the same where the cost grows with the size and no faster. The inputs are the same at every call, and
+are made anew in a folder of their own.
 """
 
 import os
@@ -20,7 +22,9 @@ FUNCTIONS = 300
 SLOTS = 16
 FRAMES = 30
 DISTINCT_STACKS = 5000
+INSTRUCTIONS = 256
 RUNS = 5
+SIZES = (1, 4, 16)
 PROGRAM = pathlib.Path(__file__).resolve().parent.parent / "cpuprof"
 
 
@@ -73,23 +77,41 @@ def write_list(path, ticks):
         out.write(f"stop 1 {1000 * (ticks + 1)}\n")
 
 
-def processor_seconds(folder, name):
+def write_program(path, instructions):
+    with open(path, "w") as out:
+        out.write('func main "main" "bench://app" 1 1 1\n')
+        for at in range(1, instructions):
+            out.write(f"{at + 1} set r{at % 8} {at}\n")
+        out.write(f"{instructions + 1} halt\n")
+
+
+def processor_seconds(folder, words):
     before = resource.getrusage(resource.RUSAGE_CHILDREN)
-    subprocess.run([PROGRAM, "fold", name], cwd=folder, check=True, stdout=subprocess.DEVNULL)
+    subprocess.run([PROGRAM, *words], cwd=folder, check=True, stdout=subprocess.DEVNULL)
     after = resource.getrusage(resource.RUSAGE_CHILDREN)
     return (after.ru_utime - before.ru_utime) + (after.ru_stime - before.ru_stime)
 
 
+def print_row(write, name, words, ticks):
+    with tempfile.TemporaryDirectory() as folder:
+        path = os.path.join(folder, name)
+        write(path, ticks)
+        size = os.path.getsize(path)
+        seconds = min(processor_seconds(folder, words) for _ in range(RUNS))
+    print(f"{ticks:>10} {size / 1e6:>8.2f} {seconds:>9.3f} {1e6 * seconds / ticks:>9.3f} {1e9 * seconds / size:>9.2f}", flush=True)
+
+
+def print_table(title, write, name, words, smallest):
+    print(title)
+    print(f"{'ticks':>10} {'MB':>8} {'seconds':>9} {'us/tick':>9} {'ns/byte':>9}", flush=True)
+    for size in SIZES:
+        print_row(write, name, words, size * smallest)
+
+
 def main():
     smallest = int(sys.argv[1]) if len(sys.argv) > 1 else 62_500
-    print(f"{'ticks':>10} {'MB':>8} {'seconds':>9} {'us/tick':>9} {'ns/byte':>9}")
-    for ticks in (smallest, 4 * smallest, 16 * smallest):
-        with tempfile.TemporaryDirectory() as folder:
-            path = os.path.join(folder, "list.items")
-            write_list(path, ticks)
-            size = os.path.getsize(path)
-            seconds = min(processor_seconds(folder, "list.items") for _ in range(RUNS))
-        print(f"{ticks:>10} {size / 1e6:>8.1f} {seconds:>9.3f} {1e6 * seconds / ticks:>9.3f} {1e9 * seconds / size:>9.2f}")
+    print_table("fold", write_list, "list.items", ["fold", "list.items"], smallest)
+    print_table("run", write_program, "long.guest", ["run", "long.guest", "1"], INSTRUCTIONS)
 
 
 if __name__ == "__main__":
