@@ -1,5 +1,5 @@
 -- What is known after items that a legal list begins with.
-use Rattle.std.proofs.Common.{◌≡◌, ℕ, suc, ◌≤◌, List, [], ◌∷◌, ◌++◌, length, true, false, ◌==◌, inl, inr, refl, sym, ap, subst, ◌∙◌, append_assoc, append-nil, arith}
+use Rattle.std.proofs.Common.{◌≡◌, ℕ, ◌≤◌, List, [], ◌∷◌, ◌++◌, length, true, false, ◌==◌, inl, inr, refl, sym, subst, ◌∙◌, append_assoc, append-nil, arith}
 use Rattle.std.proofs.lemmas.Bool.Decides.{nat_tests}
 use Rattle.std.proofs.lemmas.Map.Lookups.{exact_unsigned}
 use Rattle.std.specs.List.{AllByRecursion}
@@ -7,7 +7,7 @@ use Rattle.std.specs.Ordering.{nat_cmp}
 use Rattle.prof_base.proofs.Ordered.{Has, has_from_contains, contains_from_has, has_put, put_has, put_keeps}
 use Rattle.prof_base.specs.Ordered.{insert_sorted}
 use Rattle.code_event.specs.CodeMap.{after_event}
-use Rattle.code_event.specs.DeoptReasons.{DeoptReasons, no_reasons, reasons_after_event}
+use Rattle.code_event.specs.DeoptReasons.{DeoptReasons, reasons_after_event}
 use Rattle.code_event.specs.FileLaws.{IsOpenEvent, IsOpenItem, running_on}
 use Rattle.code_event.specs.ItemList.{ListSoFar, MayCome, IsLegalAfter, without}
 use Rattle.code_event.specs.RecordingLaws.{closes}
@@ -144,8 +144,7 @@ known_items ranges reasons course running seen (item.Event e ∷ items) rest nex
     let here : List Seen = mark reasons e.event in
     let later : List Seen = seen_behind after why items in
     let one = known_event course running seen reasons e.event (items ++ next ∷ rest) (λ c. IsLegalAfter c (items ++ next ∷ rest)) (some_items items rest next) k legal in
-    let all = known_items after why one.0 (running_on running here) (seen ++ here) items rest next one.2 one.1 in
-    (
+    let all = known_items after why one.0 (running_on running here) (seen ++ here) items rest next one.2 one.1 in (
       all.0,
       all.1,
       subst (λ (r : List ℕ). Knows all.0 r (seen ++ (here ++ later))) (sym (running_on-more running here later))

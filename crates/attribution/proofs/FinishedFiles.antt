@@ -1,33 +1,27 @@
 -- Which files stops and finishes add.
-use Rattle.std.proofs.Common.{◌≡◌, ℕ, List, [], ◌∷◌, ◌++◌, map, cond, Bool, true, false, ◌==◌, inl, inr, refl, sym, ap, subst, ◌∙◌, append_assoc, append-nil, arith}
-use Rattle.std.proofs.lemmas.Bool.{cond-true, cond-false}
+use Rattle.std.proofs.Common.{◌≡◌, ℕ, List, [], ◌∷◌, ◌++◌, map, cond, Bool, true, false, ◌==◌, inl, inr, refl, sym, ap, ◌∙◌, arith}
+use Rattle.std.proofs.lemmas.Bool.{cond-false}
 use Rattle.std.proofs.lemmas.Bool.Decides.{nat_tests}
 use Rattle.std.proofs.Common.{true≢false}
 use Rattle.std.specs.Prelude.{Option, Some, None, option_map}
 use Rattle.std.specs.Option.{option_to_list}
-use Rattle.std.specs.List.{AllByRecursion}
-use Rattle.prof_base.proofs.Ordered.{Has, has_from_contains, contains_from_has}
-use Rattle.prof_base.specs.declared.ids.SessionId.{SessionId}
+use Rattle.prof_base.proofs.Ordered.{Has, contains_from_has}
 use Rattle.code_event.proofs.FilesGrow.{files_grow, items_add_files, open_seen, same_file}
 use Rattle.code_event.proofs.SeenMore.{seen_more, seen_by_the_events_before}
 use Rattle.code_event.specs.CodeMap.{ranges}
 use Rattle.code_event.specs.DeoptReasons.{DeoptReasons, no_reasons, reasons}
-use Rattle.code_event.specs.FileLaws.{running_on, running_after, ended_by_event}
-use Rattle.code_event.specs.FileText.{file}
-use Rattle.code_event.specs.ItemFile.{SessionFile, session, session_file, files_of, files, ends_behind, item_file, item_files}
+use Rattle.code_event.specs.FileLaws.{running_after, ended_by_event}
+use Rattle.code_event.specs.ItemFile.{SessionFile, session, files_of, files, ends_behind, item_files}
 use Rattle.code_event.specs.ItemList.{without}
 use Rattle.code_event.specs.MomentLaws.{events_of}
 use Rattle.code_event.specs.Recording.{recording, recording_behind, with_tick, ended}
-use Rattle.code_event.specs.RecordingLaws.{closes}
 use Rattle.code_event.specs.Seen.{Seen, started, stopped, finished, ticked, mark, seen_behind, seen_items}
 use Rattle.code_event.specs.declared.code_map.Range.{Range}
-use Rattle.code_event.specs.declared.event.CodeEvent.TheVariants.{Stop, Finish}
-use Rattle.code_event.specs.declared.event.EventRecord.{EventRecord}
 use Rattle.code_event.specs.declared.recording.Begun.{Begun}
 use Rattle.code_event.specs.declared.tick.Item.{Item}
 use Rattle.code_event.specs.declared.tick.Item.TheVariants as item
 use Rattle.session_book.specs.Begun.{fresh, begun_behind, begun_after}
-use Rattle.attribution.specs.ItemLaws.{stop_at, stops_at, StopsAddTheirFiles, FinishesAreStops}
+use Rattle.attribution.specs.ItemLaws.{stops_at, StopsAddTheirFiles, FinishesAreStops}
 use Rattle.attribution.proofs.Courses.{Unended}
 use Rattle.attribution.proofs.LegalNext.{nothing_follows_a_finish, running_have_not_ended}
 
@@ -92,13 +86,13 @@ finishes_are_stops base items e time legal is =
     let running : List ℕ = running_after items in
     let stops : List Seen = map (λ n. stopped (session n) time why) running in
     let seen_finish : seen_items (items ++ item.Event e ∷ []) ≡ seen ++ finished time true why ∷ [] =
-        seen_by_the_events_before items (item.Event e) ∙ ap (λ event. seen ++ mark why event) is in
+    seen_by_the_events_before items (item.Event e) ∙ ap (λ event. seen ++ mark why event) is in
     let seen_stops : seen_items (items ++ stops_at time running) ≡ seen ++ stops =
-        seen_more [] no_reasons items (stops_at time running) ∙ ap (λ l. seen ++ l) (stops_seen (ranges (events_of items)) why time running) in
+    seen_more [] no_reasons items (stops_at time running) ∙ ap (λ l. seen ++ l) (stops_seen (ranges (events_of items)) why time running) in
     let same : (n : ℕ) → Has running n → recording n (seen ++ stops) ≡ recording n (seen ++ finished time true why ∷ []) = λ n h.
-        let unended = running_have_not_ended items [] (item.Event e) n legal (contains_from_has running n h) in
-        recording_goes_on n None seen stops unended ∙ stopped_among n (begun_after n seen) time why running h
-        ∙ sym (recording_goes_on n None seen (finished time true why ∷ []) unended) in
+    let unended = running_have_not_ended items [] (item.Event e) n legal (contains_from_has running n h) in
+    recording_goes_on n None seen stops unended ∙ stopped_among n (begun_after n seen) time why running h
+    ∙ sym (recording_goes_on n None seen (finished time true why ∷ []) unended) in
     ap (files base) seen_finish ∙ files_grow base seen (finished time true why ∷ []) (open_seen [] no_reasons items unfinished)
     ∙ ap (λ (fs : List SessionFile). files base seen ++ fs) (sym (same_files base seen stops time true why running same))
     ∙ ap (λ (ns : List ℕ). files base seen ++ files_of base (seen ++ stops) ns) (sym (stops_end running time why running))

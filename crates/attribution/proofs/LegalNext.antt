@@ -1,5 +1,5 @@
 -- What legal lists let come next.
-use Rattle.std.proofs.Common.{◌≡◌, ℕ, List, [], ◌∷◌, ◌++◌, ◌<◌, Bool, length, subst, arith}
+use Rattle.std.proofs.Common.{◌≡◌, ℕ, List, [], ◌∷◌, ◌++◌, Bool, subst, arith}
 use Rattle.std.specs.List.{AllByRecursion}
 use Rattle.prof_base.proofs.Ordered.{has_from_contains, contains_from_has}
 use Rattle.code_event.specs.DeoptReasons.{no_reasons}
@@ -38,8 +38,7 @@ nothing_follows_a_finish items rest next legal = (known_next items rest next leg
 pub starts_are_new : StartsAreNew
 starts_are_new items rest e s options time legal is =
     let k = known_next items rest (item.Event e) legal in
-    let may : MayCome k.0 (Start s options time) rest (λ c. IsLegalAfter c rest) = subst (λ event. MayCome k.0 event rest (λ c. IsLegalAfter c rest)) is k.1 in
-    (
+    let may : MayCome k.0 (Start s options time) rest (λ c. IsLegalAfter c rest) = subst (λ event. MayCome k.0 event rest (λ c. IsLegalAfter c rest)) is k.1 in (
       (λ runs. may.1 (contains_from_has k.0.started s.0 (k.2.listed s.0 (has_from_contains (running_after items) s.0 runs))), omega (arith, k.2.short, may.2)),
       k.2.fresh s.0 (λ h. may.1 (contains_from_has k.0.started s.0 h)),
     )

@@ -1,5 +1,5 @@
 -- Which sessions an attributor runs.
-use Rattle.std.proofs.Common.{◌≡◌, ℕ, List}
+use Rattle.std.proofs.Common.{◌≡◌, List}
 use Rattle.code_event.specs.FileLaws.{running_after}
 use Rattle.code_event.specs.Seen.{seen_items}
 use Rattle.code_event.specs.declared.tick.Item.{Item}

@@ -13,7 +13,7 @@ use Rattle.code_event.specs.Recording.{Recording, recording, ended}
 use Rattle.code_event.specs.RecordingLaws.{closes}
 use Rattle.code_event.specs.Seen.{Seen, stopped, seen_items}
 use Rattle.code_event.specs.Subsample.{kept}
-use Rattle.code_event.specs.Tree.{nodes, fin_node, fin_nodes}
+use Rattle.code_event.specs.Tree.{nodes, fin_node}
 use Rattle.code_event.specs.declared.event.CodeEvent.TheVariants.{Stop}
 use Rattle.code_event.specs.declared.event.EventRecord.{EventRecord}
 use Rattle.code_event.specs.declared.path.PathStep.{PathStep}

@@ -1,10 +1,10 @@
 -- What an attributor stands for after one more item.
-use Rattle.std.proofs.Common.{◌≡◌, ℕ, ◌<◌, ◌^◌, List, [], ◌∷◌, ◌++◌, refl, sym, ap, ap₂, subst, ◌∙◌, append-nil, arith}
+use Rattle.std.proofs.Common.{◌≡◌, ℕ, ◌<◌, ◌^◌, List, [], ◌∷◌, ◌++◌, refl, sym, ap, subst, ◌∙◌, append-nil}
 use Rattle.std.specs.List.{AllByRecursion}
 use Rattle.code_event.proofs.SeenMore.{seen_by_the_events_before}
 use Rattle.code_event.specs.CodeMap.{ranges}
 use Rattle.code_event.specs.DeoptReasons.{DeoptReasons, reasons}
-use Rattle.code_event.specs.MomentLaws.{events_of, seen_of}
+use Rattle.code_event.specs.MomentLaws.{events_of}
 use Rattle.code_event.specs.Seen.{Seen, started, stopped, ticked, mark, resolved_tick, seen_items}
 use Rattle.code_event.specs.Symbolizer.{path, leaf_line, tick_frames}
 use Rattle.code_event.specs.declared.code_map.Range.{Range}
@@ -62,7 +62,7 @@ pub takes_change : (old new : MapParts) (book : BookParts) (event : CodeEvent) �
 unfolding StandsFor
 takes_change old new book event changes ranges_follow reasons_follow items e is stands =
     let same : seen_items (items ++ item.Event e ∷ []) ≡ seen_items items =
-        seen_event items e event is ∙ ap (λ l. seen_items items ++ l) (no_mark (reasons (events_of items)) event changes) ∙ append-nil (seen_items items) in
+    seen_event items e event is ∙ ap (λ l. seen_items items ++ l) (no_mark (reasons (events_of items)) event changes) ∙ append-nil (seen_items items) in
     record {
       code = map_after old new items e stands.code (subst (RangesFollow old new) (sym is) ranges_follow) (subst (ReasonsFollow old new) (sym is) reasons_follow);
       sessions = subst (IsBookOf book) (sym same) stands.sessions;
@@ -109,7 +109,7 @@ takes_tick old new before after tick paths leaf caller line ranges_stay reasons_
     let rs = ranges (events_of items) in
     let whole : seen_items (items ++ item.Tick tick ∷ []) ≡ seen_items items ++ ticked (resolved_tick rs tick) ∷ [] = seen_by_the_events_before items (item.Tick tick) in
     let are : paths ≡ paths_over (tick_frames rs tick) =
-        λ i. record { leaf = leaf rs stands.code.ranges i; caller = caller rs stands.code.ranges i; leaf_line = line rs stands.code.ranges i } in
+    λ i. record { leaf = leaf rs stands.code.ranges i; caller = caller rs stands.code.ranges i; leaf_line = line rs stands.code.ranges i } in
     record {
       code = subst (IsAfter new) (sym (events_more items (item.Tick tick ∷ []) ∙ append-nil (events_of items))) (look_ups_change_nothing old new (events_of items) stands.code ranges_stay reasons_stay);
       sessions = subst (IsBookOf after) (sym whole) (follows (seen_items items) (tick_frames rs tick) are stands.sessions);

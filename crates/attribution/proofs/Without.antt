@@ -1,5 +1,5 @@
 -- Lists of numbers without one of them.
-use Rattle.std.proofs.Common.{◌≡◌, ℕ, suc, ◌≤◌, List, [], ◌∷◌, length, cond, Bool, true, false, ◌==◌, inl, inr, refl, sym, ap, subst, ◌∙◌, arith}
+use Rattle.std.proofs.Common.{◌≡◌, ℕ, suc, ◌≤◌, List, [], ◌∷◌, length, cond, true, false, ◌==◌, inl, inr, refl, sym, ap, subst, ◌∙◌, arith}
 use Rattle.std.proofs.lemmas.Bool.Decides.{nat_tests}
 use Rattle.std.specs.Prelude.{not}
 use Rattle.std.specs.Ordering.{nat_cmp, is_lt, is_eq}
@@ -39,9 +39,9 @@ has_without n m (x ∷ xs) h =
     by_first (λ l. Has l m → Has (x ∷ xs) m × ((m == n) ≡ false)) n x xs
     (λ e more. let rest = has_without n m xs more in (inr rest.0, rest.1))
     (λ e more. elim more [
-        | inl same ↦ (inl same, subst (λ k. (k == n) ≡ false) same e)
-        | inr old ↦ let rest = has_without n m xs old in (inr rest.0, rest.1)
-      ])
+      | inl same ↦ (inl same, subst (λ k. (k == n) ≡ false) same e)
+      | inr old ↦ let rest = has_without n m xs old in (inr rest.0, rest.1)
+    ])
     h
 
 pub keeps_others : (n m : ℕ) (xs : List ℕ) → (m == n) ≡ false → Has xs m → Has (without n xs) m
@@ -49,9 +49,9 @@ keeps_others n m [] other h = absurd h
 keeps_others n m (x ∷ xs) other h =
     by_first (λ l. Has l m) n x xs
     (λ e. elim h [
-        | inl same ↦ absurd (let is : m ≡ n = sym same ∙ same_test x n e in grind (arith, nat_tests, is, other))
-        | inr old ↦ keeps_others n m xs other old
-      ])
+      | inl same ↦ absurd (let is : m ≡ n = sym same ∙ same_test x n e in grind (arith, nat_tests, is, other))
+      | inr old ↦ keeps_others n m xs other old
+    ])
     (λ e. elim h [ inl same ↦ inl same | inr old ↦ inr (keeps_others n m xs other old) ])
 
 pub without_at_most : (n : ℕ) (xs : List ℕ) → length (without n xs) ≤ length xs
@@ -64,9 +64,9 @@ without_shorter n [] h = absurd h
 without_shorter n (x ∷ xs) h =
     by_first (λ l. suc (length l) ≤ suc (length xs)) n x xs (λ e. omega (arith, without_at_most n xs))
     (λ e. elim h [
-        | inl same ↦ absurd (grind (arith, nat_tests, same, e))
-        | inr old ↦ omega (arith, without_shorter n xs old)
-      ])
+      | inl same ↦ absurd (grind (arith, nat_tests, same, e))
+      | inr old ↦ omega (arith, without_shorter n xs old)
+    ])
 
 pub without_none : (n : ℕ) (xs : List ℕ) → ¬ Has xs n → without n xs ≡ xs
 without_none n [] none = refl

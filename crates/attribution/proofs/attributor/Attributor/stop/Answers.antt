@@ -1,9 +1,6 @@
 use Rattle.std.proofs.Common.{◌≡◌, List, ◌∷◌, [], ◌++◌, subst}
 use Rattle.std.specs.Prelude.{Some}
-use Rattle.code_event.specs.DeoptReasons.{reasons}
 use Rattle.code_event.specs.ItemFile.{item_file}
-use Rattle.code_event.specs.MomentLaws.{events_of}
-use Rattle.code_event.specs.Seen.{seen_items}
 use Rattle.code_event.specs.declared.event.CodeEvent.TheVariants.{Stop}
 use Rattle.code_event.specs.declared.event.EventRecord.{EventRecord}
 use Rattle.code_event.specs.declared.tick.Item.{Item}
