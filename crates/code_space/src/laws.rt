@@ -1,0 +1,28 @@
+//! Laws of spaces. Each function does nothing: its contract is the law.
+ghost use Rattle.std.specs.Prelude.{◌≡◌};
+ghost use Rattle.code_space.specs.Laws.{AddressesHaveOneOwner, LeastFitIsUnique, CompactionKeepsSizes, MovesCompact};
+
+use crate::range::{ALIGNMENT, FIRST_ADDRESS, MAX_RANGES, MAX_SIZE, SPACE_END};
+
+/// States the limits that contracts cite by name.
+pub fn limits()
+    ensures first { FIRST_ADDRESS ≡ 4096 }
+    ensures alignment { ALIGNMENT ≡ 4 }
+    ensures size { MAX_SIZE ≡ 16384 }
+    ensures ranges { MAX_RANGES ≡ 512 }
+    ensures end { SPACE_END ≡ 16781312 }
+{}
+
+/// No address is in two ranges of a space, and there is one least address at which a range fits.
+pub fn addresses_have_one_owner()
+    ensures owner { AddressesHaveOneOwner }
+    ensures fit { LeastFitIsUnique }
+{}
+
+/// Compaction keeps the order and the sizes of the ranges. Where its moves are done to the ranges of
+/// a space one after the other, each as a code map does a move, no range is lost, and those of the
+/// compacted space are left.
+pub fn moves_compact()
+    ensures sizes { CompactionKeepsSizes }
+    ensures moves { MovesCompact }
+{}

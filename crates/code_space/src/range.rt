@@ -1,0 +1,35 @@
+// Ranges of addresses, and the limits of the space.
+
+/// The first address of the space.
+pub const FIRST_ADDRESS: u32 = 4_096;
+
+/// The bytes of an instruction's slot. Each range starts at a multiple of them, and has a multiple
+/// of them as its size.
+pub const ALIGNMENT: u32 = 4;
+
+/// The most bytes of a range.
+pub const MAX_SIZE: u32 = 16_384;
+
+/// The most ranges that are in use at once.
+pub const MAX_RANGES: usize = 512;
+
+/// No range ends above this address. Below the least address at which a range fits each hole is
+/// smaller than the range, so holes and ranges together take at most `2 * MAX_SIZE` bytes for each
+/// of `MAX_RANGES` ranges.
+pub const SPACE_END: u32 = 16_781_312;
+
+/// A range of addresses.
+#[derive(Clone, Copy, Debug, PartialEq, Eq)]
+pub struct CodeRange {
+    /// Its first address.
+    pub start: u32,
+    /// Its size in bytes.
+    pub size: u32,
+}
+
+/// A range went from the one first address to the other.
+#[derive(Clone, Copy, Debug, PartialEq, Eq)]
+pub struct CodeMove {
+    pub from: u32,
+    pub to: u32,
+}
