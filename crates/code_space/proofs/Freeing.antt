@@ -1,12 +1,12 @@
 -- A space without one of its ranges.
 use Rattle.std.proofs.Common.{◌≡◌, ℕ, suc, ◌+◌, ◌<◌, ◌≤◌, List, [], ◌∷◌, length, refl, ap, ◌∙◌, arith}
-use Rattle.std.specs.Prelude.{Bool, true, false, not, cond, filter, Option, Some, None, IsSome, ◌==◌}
+use Rattle.std.specs.Prelude.{Bool, true, false, not, cond, filter, Some, IsSome, ◌==◌}
 use Rattle.std.specs.List.{AllByRecursion}
 use Rattle.std.proofs.lemmas.Bool.{cond_both}
 use Rattle.std.proofs.lemmas.Bool.Decides.{nat_tests}
 use Rattle.code_space.specs.Space.{IsCodeRange, AreRising, IsSpace, range_at, without_range}
 use Rattle.code_space.specs.declared.range.CodeRange.{CodeRange}
-use Rattle.code_space.specs.declared.range.TheConstants.{FIRST_ADDRESS, MAX_RANGES}
+use Rattle.code_space.specs.declared.range.TheConstants.{FIRST_ADDRESS}
 
 -- ranges that rise from an address rise from a lower one
 pub rising_lower : (low least : ℕ) (ranges : List CodeRange) → least ≤ low → AreRising low ranges → AreRising least ranges

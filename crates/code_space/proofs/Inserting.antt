@@ -1,5 +1,5 @@
 -- A space with one more range.
-use Rattle.std.proofs.Common.{◌≡◌, ℕ, zero, suc, ◌+◌, ◌%◌, ◌<◌, ◌≤◌, ◌⊎◌, inl, inr, List, [], ◌∷◌, length, refl, ap, sym, subst, arith}
+use Rattle.std.proofs.Common.{◌≡◌, ℕ, suc, ◌+◌, ◌%◌, ◌<◌, ◌≤◌, ◌⊎◌, inl, inr, List, [], ◌∷◌, length, refl, ap, sym, subst, arith}
 use Rattle.std.specs.Prelude.{Bool, true, false, not, cond, Some, None, nat_lt, insert, position}
 use Rattle.std.specs.List.{AllByRecursion, position_or_len}
 use Rattle.std.proofs.lemmas.Bool.{cond_both}
@@ -47,7 +47,6 @@ space_inserted ranges start size space room code fit aligned within =
       each = each_inserted ranges new space.each (record { size = code; aligned = aligned; within = within });
       rising = rising_inserted FIRST_ADDRESS ranges new fit.above (omega (arith, some)) fit.fits space.rising;
     }
-
 
 place_within : {X : Type 0} (p : X → Bool) (xs : List X) → position_or_len p xs ≤ length xs
 place_within p [] = omega arith

@@ -1,6 +1,6 @@
 -- The first hole that is large enough is the least fit.
-use Rattle.std.proofs.Common.{◌≡◌, ℕ, suc, ◌+◌, ◌*◌, ◌%◌, ◌<◌, ◌≤◌, ◌⊎◌, inl, inr, zero, List, [], ◌∷◌, length, drop, get_or, refl, ap, ◌∙◌, subst, arith}
-use Rattle.std.specs.Prelude.{Bool, true, false, cond, nat_le}
+use Rattle.std.proofs.Common.{◌≡◌, ℕ, suc, ◌+◌, ◌*◌, ◌%◌, ◌<◌, ◌≤◌, ◌⊎◌, inl, inr, zero, List, [], ◌∷◌, length, drop, get_or, ap, ◌∙◌, subst, arith}
+use Rattle.std.specs.Prelude.{true, false, cond, nat_le}
 use Rattle.std.specs.List.{AllByRecursion}
 use Rattle.std.proofs.lemmas.Bool.{cond_both}
 use Rattle.std.proofs.lemmas.Bool.Decides.{nat_tests}
@@ -9,7 +9,7 @@ use Rattle.code_space.specs.Space.{IsCodeRange, AreRising, IsSpace, Fits, IsCode
 use Rattle.code_space.specs.declared.range.CodeRange.{CodeRange}
 use Rattle.code_space.specs.declared.range.TheConstants.{FIRST_ADDRESS, SPACE_END, ALIGNMENT, MAX_SIZE, MAX_RANGES}
 
--- where the first hole begins that has so many bytes, from this address on
+-- where the first hole of at least this size begins, from this address on
 abbrev pub first_hole : ℕ → ℕ → List CodeRange → ℕ
 first_hole low size [] = low
 first_hole low size (range ∷ ranges) = cond (nat_le (low + size) range.start) low (first_hole (range.start + range.size) size ranges)

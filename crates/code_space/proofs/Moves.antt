@@ -1,6 +1,6 @@
 -- The moves of a compaction, done to ranges in any order.
 use Rattle.std.proofs.Common.{◌≡◌, ℕ, ◌+◌, ◌<◌, ◌≤◌, ◌⊎◌, inl, inr, List, [], ◌∷◌, ◌++◌, refl, ap, ◌∙◌, sym, subst, arith}
-use Rattle.std.specs.Prelude.{Bool, true, false, not, cond, filter, Option, Some, find, ◌==◌, ◌&&◌, nat_lt, Contains}
+use Rattle.std.specs.Prelude.{Bool, true, false, not, cond, filter, Some, find, ◌==◌, ◌&&◌, nat_lt}
 use Rattle.std.specs.List.{AllByRecursion}
 use Rattle.std.specs.Option.{option_map_or}
 use Rattle.std.proofs.lemmas.Bool.{cond_both, eqb-true}
@@ -8,8 +8,8 @@ use Rattle.std.proofs.lemmas.Bool.Decides.{nat_tests}
 use Rattle.std.proofs.lemmas.List.{append_assoc}
 use Rattle.prof_base.proofs.Ordered.{Has, has_from_contains, contains_from_has}
 use Rattle.code_space.specs.Compaction.{compacted, moves_between}
-use Rattle.code_space.specs.Laws.{meets, with_range, after_move, after_moves, AreSame, MovesCompact}
-use Rattle.code_space.specs.Space.{IsCodeRange, AreRising, IsSpace, range_at, without_range}
+use Rattle.code_space.specs.Laws.{meets, with_range, after_move, after_moves, MovesCompact}
+use Rattle.code_space.specs.Space.{IsCodeRange, AreRising, range_at, without_range}
 use Rattle.code_space.specs.declared.range.CodeMove.{CodeMove}
 use Rattle.code_space.specs.declared.range.CodeRange.{CodeRange}
 use Rattle.code_space.specs.declared.range.TheConstants.{FIRST_ADDRESS}

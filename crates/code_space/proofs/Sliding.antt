@@ -7,7 +7,7 @@ use Rattle.code_space.specs.Compaction.{compacted, moves_between}
 use Rattle.code_space.specs.Space.{IsCodeRange, AreRising, IsSpace}
 use Rattle.code_space.specs.declared.range.CodeMove.{CodeMove}
 use Rattle.code_space.specs.declared.range.CodeRange.{CodeRange}
-use Rattle.code_space.specs.declared.range.TheConstants.{FIRST_ADDRESS, SPACE_END}
+use Rattle.code_space.specs.declared.range.TheConstants.{FIRST_ADDRESS}
 use Rattle.code_space.proofs.Freeing.{rising_lower}
 
 -- The ranges before this place are slid down, up to the first address that is free, and their moves are told.

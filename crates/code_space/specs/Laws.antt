@@ -1,5 +1,5 @@
 -- What holds of all spaces.
-use Rattle.std.specs.Prelude.{◌≡◌, ℕ, ◌+◌, ◌≤◌, List, [], ◌∷◌, ◌++◌, map, Bool, not, ◌&&◌, ◌==◌, nat_lt, nat_le, filter, count_by, Contains}
+use Rattle.std.specs.Prelude.{◌≡◌, ℕ, ◌+◌, ◌≤◌, List, [], ◌∷◌, ◌++◌, map, Bool, not, ◌&&◌, nat_lt, nat_le, filter, count_by, Contains}
 use Rattle.std.specs.Option.{option_map_or}
 use Rattle.code_space.specs.Compaction.{compacted, moves_between}
 use Rattle.code_space.specs.Space.{IsSpace, IsLeastFit, range_at, without_range}
@@ -19,7 +19,7 @@ AddressesHaveOneOwner = (ranges : List CodeRange) (address : ℕ) → IsSpace ra
 abbrev pub LeastFitIsUnique : Type 0
 LeastFitIsUnique = (ranges : List CodeRange) (size one other : ℕ) → IsLeastFit ranges size one → IsLeastFit ranges size other → one ≡ other
 
--- a compacted space has the old sizes in the old order, and is a space
+-- compaction keeps the sizes, and their order
 abbrev pub CompactionKeepsSizes : Type 0
 CompactionKeepsSizes = (ranges : List CodeRange) → map (λ range. range.size) (compacted FIRST_ADDRESS ranges) ≡ map (λ range. range.size) ranges
 

@@ -1,10 +1,10 @@
 -- The space in which code lies, and where the next code is placed in it.
-use Rattle.std.specs.Prelude.{◌≡◌, ℕ, ◌+◌, ◌%◌, ◌≤◌, ◌⊎◌, List, [], ◌∷◌, length, Bool, not, ◌==◌, nat_lt, Option, find, filter, if◌then◌else◌}
+use Rattle.std.specs.Prelude.{◌≡◌, ℕ, ◌+◌, ◌%◌, ◌≤◌, ◌⊎◌, List, [], ◌∷◌, length, not, ◌==◌, nat_lt, Option, find, filter, if◌then◌else◌}
 use Rattle.std.specs.List.{AllByRecursion}
 use Rattle.code_space.specs.declared.range.CodeRange.{CodeRange}
 use Rattle.code_space.specs.declared.range.TheConstants.{FIRST_ADDRESS, SPACE_END, ALIGNMENT, MAX_SIZE, MAX_RANGES}
 
--- the size of code, in bytes: at least one slot, at most the most slots, and no part of a slot
+-- a size of code in bytes: of at least one slot, at most the greatest size, and of whole slots
 pub record IsCodeSize (size : ℕ) : Type 0 where
   pub least : ALIGNMENT ≤ size
   pub greatest : size ≤ MAX_SIZE
@@ -27,11 +27,11 @@ pub record IsSpace (ranges : List CodeRange) : Type 0 where
   pub each : AllByRecursion IsCodeRange ranges
   pub rising : AreRising FIRST_ADDRESS ranges
 
--- so many bytes from this address on share no address with any of the ranges
+-- a new range of this size that starts at this address would share no address with any of the ranges
 abbrev pub Fits : List CodeRange → ℕ → ℕ → Type 0
 Fits ranges size start = AllByRecursion (λ range. (start + size ≤ range.start) ⊎ (range.start + range.size ≤ start)) ranges
 
--- the least address of the space at which so many bytes fit
+-- the least address of the space at which a new range of this size fits
 pub record IsLeastFit (ranges : List CodeRange) (size start : ℕ) : Type 0 where
   pub above : FIRST_ADDRESS ≤ start
   pub fits : Fits ranges size start

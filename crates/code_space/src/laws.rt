@@ -13,16 +13,23 @@ pub fn limits()
     ensures end { SPACE_END ≡ 16781312 }
 {}
 
-/// No address is in two ranges of a space, and there is one least address at which a range fits.
+/// No address is in two ranges of a space.
 pub fn addresses_have_one_owner()
-    ensures owner { AddressesHaveOneOwner }
-    ensures fit { LeastFitIsUnique }
+    ensures { AddressesHaveOneOwner }
 {}
 
-/// Compaction keeps the order and the sizes of the ranges. Where its moves are done to the ranges of
-/// a space one after the other, each as a code map does a move, no range is lost, and those of the
-/// compacted space are left.
-pub fn moves_compact()
-    ensures sizes { CompactionKeepsSizes }
-    ensures moves { MovesCompact }
+/// There is one least address at which a range fits.
+pub fn there_is_one_least_fit()
+    ensures { LeastFitIsUnique }
+{}
+
+/// Compaction keeps the sizes of the ranges, and their order.
+pub fn compaction_keeps_sizes()
+    ensures { CompactionKeepsSizes }
+{}
+
+/// Where the moves of a compaction are done to the ranges of the space one after the other, each as a
+/// code map does a move, no range is lost, and what is left are the ranges of the compacted space.
+pub fn moves_lose_no_range()
+    ensures { MovesCompact }
 {}

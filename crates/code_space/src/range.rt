@@ -13,9 +13,10 @@ pub const MAX_SIZE: u32 = 16_384;
 /// The most ranges that are in use at once.
 pub const MAX_RANGES: usize = 512;
 
-/// No range ends above this address. Below the least address at which a range fits each hole is
-/// smaller than the range, so holes and ranges together take at most `2 * MAX_SIZE` bytes for each
-/// of `MAX_RANGES` ranges.
+/// No range ends above this address. Each hole below the least address at which a range fits is
+/// smaller than the range, and is followed by one that is in use. So the ranges and the holes below
+/// them take at most `2 * MAX_SIZE` bytes for each of `MAX_RANGES` ranges, and a space is never too
+/// full to place one more.
 pub const SPACE_END: u32 = 16_781_312;
 
 /// A range of addresses.
@@ -27,9 +28,11 @@ pub struct CodeRange {
     pub size: u32,
 }
 
-/// A range went from the one first address to the other.
+/// Where compaction moved a range.
 #[derive(Clone, Copy, Debug, PartialEq, Eq)]
 pub struct CodeMove {
+    /// Where it started.
     pub from: u32,
+    /// Where it starts now.
     pub to: u32,
 }

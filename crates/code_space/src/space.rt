@@ -1,5 +1,5 @@
 // The space of the guest's code.
-ghost use Rattle.std.specs.Prelude.{◌≡◌, ◌<◌, ◌≤◌, ◌+◌, ◌%◌, [], length, IsSome, IfOk, OnOk, OnErr};
+ghost use Rattle.std.specs.Prelude.{◌≡◌, ◌<◌, ◌≤◌, ◌+◌, ◌%◌, [], length, IsSome, IfOk, OnOk, OnErr, option_copied};
 ghost use Rattle.code_space.specs.Space.{IsSpace, IsLeastFit, inserted, range_at, without_range};
 ghost use Rattle.code_space.specs.Compaction.{compacted, moves_between};
 
@@ -28,6 +28,13 @@ impl Model for CodeSpace {
     ghost view = { λ s. s.ranges.items };
 
     ghost invariant = { λ s. IsSpace s.ranges.items };
+}
+
+/// Finds the range that starts at this address.
+fn find_range(ranges: &[CodeRange], start: u32) -> Option<&CodeRange>
+    ensures { option_copied result ≡ range_at ranges.now start }
+{
+    ranges.iter().find(|range| range.start == start)
 }
 
 /// Removes the range that starts at this address.
@@ -61,6 +68,13 @@ impl CodeSpace {
         ensures space { IsSpace self.now }
     {
         self.ranges.as_slice()
+    }
+
+    /// Returns the range that starts at this address, if one does.
+    pub fn range_at(&self, start: u32) -> Option<&CodeRange>
+        ensures { option_copied result ≡ range_at self.now start }
+    {
+        find_range(&self.ranges, start)
     }
 
     /// Places a range of `size` bytes at the least address at which it fits, and returns that

@@ -18,6 +18,8 @@ mod schedules;
 #[cfg(test)]
 mod sessions;
 #[cfg(test)]
+mod spaces;
+#[cfg(test)]
 mod trees;
 #[cfg(test)]
 mod values;
