@@ -1,0 +1,12 @@
+//! The layouts of a guest function's code: its plain code, with a slot for each instruction, and its
+//! optimised code, with calls of inline functions inlined.
+#![tactic(auto)]
+
+pub mod laws;
+mod layouts;
+mod parts;
+mod refused;
+mod sizes;
+
+pub use layouts::{inlined, plain};
+pub use refused::LayoutRefused;
