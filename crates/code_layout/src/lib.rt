@@ -2,11 +2,14 @@
 //! optimised code, with calls of inline functions inlined.
 #![tactic(auto)]
 
+pub mod examples;
 pub mod laws;
 mod layouts;
 mod parts;
 mod refused;
 mod sizes;
+mod table;
 
 pub use layouts::{inlined, plain};
 pub use refused::LayoutRefused;
+pub use table::SlotTable;

@@ -6,6 +6,8 @@
 #[cfg(test)]
 mod base;
 #[cfg(test)]
+mod code_layouts;
+#[cfg(test)]
 mod code_maps;
 #[cfg(test)]
 mod events;

@@ -1,6 +1,6 @@
 use Rattle.std.proofs.Common.{◌∙◌, ap}
 use Rattle.code_layout.specs.Layouts.{inlined_layout}
-use Rattle.code_layout.proofs.Table.{too_large, small}
+use Rattle.code_layout.proofs.SizeTable.{too_large, small}
 use Rattle.code_layout.proofs.layouts.inlined.Goals as goal
 
 pub returns-then-slots-clause-refused : goal.returns-then-slots-clause-refused

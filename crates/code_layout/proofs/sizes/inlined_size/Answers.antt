@@ -1,7 +1,7 @@
 use Rattle.std.proofs.Common.{◌≤◌, sym, subst, arith}
 use Rattle.std.specs.Prelude.{All}
 use Rattle.code_layout.specs.declared.sizes.TheConstants.{MAX_PART}
-use Rattle.code_layout.proofs.Table.{next_sizes, last_size, sizes_low}
+use Rattle.code_layout.proofs.SizeTable.{next_sizes, last_size, sizes_low}
 use Rattle.code_layout.proofs.sizes.inlined_size.Goals as goal
 
 pub loop-depth-preserved : goal.loop-depth-preserved

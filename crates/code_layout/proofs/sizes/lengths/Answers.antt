@@ -1,5 +1,5 @@
 use Rattle.std.proofs.Common.{arith}
-use Rattle.code_layout.proofs.Table.{are_sizes}
+use Rattle.code_layout.proofs.SizeTable.{are_sizes}
 use Rattle.code_layout.proofs.sizes.lengths.Goals as goal
 
 pub returns : goal.returns

@@ -1,0 +1,12 @@
+use Rattle.std.proofs.Common.{◌≤◌, length, drop}
+use Rattle.code_layout.proofs.Places.{HavePlaces}
+use Rattle.code_layout.proofs.table.SlotTable.new.Given as goal
+
+abbrev pub decreases-loop-place : goal.decreases-loop-place
+decreases-loop-place l = l.place
+
+abbrev pub invariant-loop-place : goal.invariant-loop-place
+invariant-loop-place l = record {
+  within : l.place ≤ length l.slots;
+  places : HavePlaces l.places l.place (drop l.place l.slots);
+}
