@@ -15,21 +15,21 @@ pub fn limits()
 
 /// No address is in two ranges of a space.
 pub fn addresses_have_one_owner()
-    ensures { AddressesHaveOneOwner }
+    ensures owner { AddressesHaveOneOwner }
 {}
 
 /// There is one least address at which a range fits.
 pub fn there_is_one_least_fit()
-    ensures { LeastFitIsUnique }
+    ensures unique { LeastFitIsUnique }
 {}
 
 /// Compaction keeps the sizes of the ranges, and their order.
 pub fn compaction_keeps_sizes()
-    ensures { CompactionKeepsSizes }
+    ensures sizes { CompactionKeepsSizes }
 {}
 
 /// Where the moves of a compaction are done to the ranges of the space one after the other, each as a
 /// code map does a move, no range is lost, and what is left are the ranges of the compacted space.
 pub fn moves_lose_no_range()
-    ensures { MovesCompact }
+    ensures kept { MovesCompact }
 {}

@@ -47,7 +47,7 @@ fn remove_range(ranges: &mut Vec<CodeRange>, start: u32)
 impl CodeSpace {
     /// Makes a space in which nothing lies. It allocates nothing.
     pub fn new(alloc: Global) -> CodeSpace
-        ensures { result ≡ [] }
+        ensures empty { result ≡ [] }
     {
         CodeSpace {
             ranges: Vec::new(alloc),
@@ -72,7 +72,7 @@ impl CodeSpace {
 
     /// Returns the range that starts at this address, if one does.
     pub fn range_at(&self, start: u32) -> Option<&CodeRange>
-        ensures { option_copied result ≡ range_at self.now start }
+        ensures found { option_copied result ≡ range_at self.now start }
     {
         find_range(&self.ranges, start)
     }
