@@ -1,0 +1,12 @@
+pub mod Cells
+pub mod EachStep
+pub mod Joined
+pub mod Kept
+pub mod KeptLists
+pub mod KeptRing
+pub mod InOrder
+pub mod Order
+pub mod Places
+pub mod RefusedSteps
+pub mod Rings
+pub mod StampedRest
