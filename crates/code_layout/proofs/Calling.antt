@@ -3,7 +3,7 @@ use Rattle.std.proofs.Common.{◌≡◌, ℕ, ◌+◌, ◌*◌, length, arith}
 use Rattle.std.proofs.lemmas.List.Folds.{sum_by-replicate}
 use Rattle.std.proofs.lemmas.List.{length-replicate}
 use Rattle.std.specs.Prelude.{replicate, sum_by}
-use Rattle.guest_text.specs.InlinedSize.{taken_in, inlined_size}
+use Rattle.guest_program.specs.InlinedSize.{taken_in, inlined_size}
 use Rattle.code_layout.specs.Examples.{calling, return}
 
 pub calling_size : (size : ℕ) → inlined_size (calling size) 4 0 ≡ size + 2

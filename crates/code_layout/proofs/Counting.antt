@@ -3,11 +3,11 @@ use Rattle.std.proofs.Common.{◌≡◌, ℕ, zero, suc, ◌+◌, ◌<◌, ◌�
 use Rattle.std.proofs.lemmas.List.Sums.{sum_by-cons}
 use Rattle.std.specs.Prelude.{Bool, true, false, cond, Option, Some, None, sum_by}
 use Rattle.std.specs.Option.{option_map_or, option_and_then}
-use Rattle.guest_text.specs.InlinedSize.{body_of, is_inline, called, taken_in, inlined_size}
-use Rattle.guest_text.specs.Program.{IsProgram}
-use Rattle.guest_text.specs.declared.instr.Func.{Func}
-use Rattle.guest_text.specs.declared.instr.Instr.{Instr}
-use Rattle.guest_text.specs.declared.instr.Op.{Op}
+use Rattle.guest_program.specs.InlinedSize.{body_of, is_inline, called, taken_in, inlined_size}
+use Rattle.guest_program.specs.Program.{IsProgram}
+use Rattle.guest_program.specs.declared.instr.Func.{Func}
+use Rattle.guest_program.specs.declared.instr.Instr.{Instr}
+use Rattle.guest_program.specs.declared.instr.Op.{Op}
 use Rattle.code_event.specs.Parts.{LayoutParts}
 use Rattle.code_event.specs.declared.layout.Site.{Site}
 use Rattle.code_layout.specs.Layouts.{unit_of, nothing, with_unit, Inlined, expanded_from, inline_callee, inlined_at, expanded}

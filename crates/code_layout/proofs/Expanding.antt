@@ -5,11 +5,11 @@ use Rattle.std.proofs.lemmas.Option.{slice_get_within, slice_get_past}
 use Rattle.std.specs.Prelude.{Bool, true, false, cond, Option, Some, None}
 use Rattle.std.specs.Option.{option_map_or, option_and_then}
 use Rattle.std.specs.List.{slice_get, AllByRecursion}
-use Rattle.guest_text.specs.InlinedSize.{body_of, is_inline, called}
-use Rattle.guest_text.specs.Program.{IsProgram, IsFunc}
-use Rattle.guest_text.specs.declared.instr.Func.{Func}
-use Rattle.guest_text.specs.declared.instr.Instr.{Instr}
-use Rattle.guest_text.specs.declared.instr.Op.{Op}
+use Rattle.guest_program.specs.InlinedSize.{body_of, is_inline, called}
+use Rattle.guest_program.specs.Program.{IsProgram, IsFunc}
+use Rattle.guest_program.specs.declared.instr.Func.{Func}
+use Rattle.guest_program.specs.declared.instr.Instr.{Instr}
+use Rattle.guest_program.specs.declared.instr.Op.{Op}
 use Rattle.code_event.specs.Layout.{site_of, sites_above}
 use Rattle.code_event.specs.Parts.{LayoutParts}
 use Rattle.code_event.specs.declared.layout.Unit.{Unit as CodeUnit}

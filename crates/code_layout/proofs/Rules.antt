@@ -5,8 +5,8 @@ use Rattle.std.proofs.lemmas.Option.{slice_get_past}
 use Rattle.std.specs.Prelude.{Some, None}
 use Rattle.std.specs.Option.{option_map_or, option_and_then}
 use Rattle.std.specs.List.{slice_get, AllByRecursion}
-use Rattle.guest_text.specs.InlinedSize.{inlined_size}
-use Rattle.guest_text.specs.declared.instr.Func.{Func}
+use Rattle.guest_program.specs.InlinedSize.{inlined_size}
+use Rattle.guest_program.specs.declared.instr.Func.{Func}
 use Rattle.code_event.specs.Layout.{sites_above, HasParent, HaveParents, IsLayout}
 use Rattle.code_event.specs.Parts.{LayoutParts}
 use Rattle.code_event.specs.declared.layout.Unit.{Unit as CodeUnit}

@@ -9,10 +9,10 @@ use Rattle.std.proofs.lemmas.Option.{slice_get_past}
 use Rattle.std.specs.Prelude.{Option, Some, None, sum_by, All}
 use Rattle.std.specs.Option.{option_map_or}
 use Rattle.std.specs.List.{AllByRecursion}
-use Rattle.guest_text.specs.InlinedSize.{body_of, taken_in, inlined_size}
-use Rattle.guest_text.specs.Program.{IsProgram, IsFunc}
-use Rattle.guest_text.specs.declared.instr.Func.{Func}
-use Rattle.guest_text.specs.declared.instr.Instr.{Instr}
+use Rattle.guest_program.specs.InlinedSize.{body_of, taken_in, inlined_size}
+use Rattle.guest_program.specs.Program.{IsProgram, IsFunc}
+use Rattle.guest_program.specs.declared.instr.Func.{Func}
+use Rattle.guest_program.specs.declared.instr.Instr.{Instr}
 use Rattle.code_layout.specs.Layouts.{inline_callee}
 use Rattle.code_layout.specs.Sizes.{AreSizes, size_by}
 use Rattle.code_layout.specs.declared.sizes.TheConstants.{MAX_PART}

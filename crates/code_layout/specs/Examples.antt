@@ -1,10 +1,10 @@
 -- Small programs whose layouts were worked out by hand.
 use Rattle.std.specs.Prelude.{ℕ, List, [], ◌∷◌, Bool, true, false, map, codes, replicate, Option, option_map}
 use Rattle.prof_base.specs.declared.ids.FuncId.{FuncId}
-use Rattle.guest_text.specs.declared.instr.Func.{Func}
-use Rattle.guest_text.specs.declared.instr.Instr.{Instr}
-use Rattle.guest_text.specs.declared.instr.Op.{Op}
-use Rattle.guest_text.specs.declared.instr.Op.TheVariants as op
+use Rattle.guest_program.specs.declared.instr.Func.{Func}
+use Rattle.guest_program.specs.declared.instr.Instr.{Instr}
+use Rattle.guest_program.specs.declared.instr.Op.{Op}
+use Rattle.guest_program.specs.declared.instr.Op.TheVariants as op
 use Rattle.code_event.specs.Parts.{LayoutParts}
 
 -- the function with this number

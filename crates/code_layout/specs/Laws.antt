@@ -3,10 +3,10 @@
 use Rattle.std.specs.Prelude.{◌≡◌, ℕ, suc, ◌<◌, ◌≤◌, ◌⊎◌, List, [], ◌∷◌, length, true, Option, Some, None, ◌&&◌, ◌==◌, if◌then◌else◌}
 use Rattle.std.specs.Option.{option_map_or}
 use Rattle.std.specs.List.{slice_get, AllByRecursion}
-use Rattle.guest_text.specs.InlinedSize.{body_of, is_inline, called, inlined_size}
-use Rattle.guest_text.specs.Program.{IsProgram}
-use Rattle.guest_text.specs.declared.instr.Func.{Func}
-use Rattle.guest_text.specs.declared.instr.Instr.{Instr}
+use Rattle.guest_program.specs.InlinedSize.{body_of, is_inline, called, inlined_size}
+use Rattle.guest_program.specs.Program.{IsProgram}
+use Rattle.guest_program.specs.declared.instr.Func.{Func}
+use Rattle.guest_program.specs.declared.instr.Instr.{Instr}
 use Rattle.code_event.specs.Layout.{sites_above, IsLayout}
 use Rattle.code_event.specs.Parts.{LayoutParts}
 use Rattle.code_event.specs.declared.layout.Unit.{Unit as CodeUnit}

@@ -1,7 +1,7 @@
 -- The table of inlined sizes, and when a layout is too large.
 use Rattle.std.specs.Prelude.{◌≡◌, ℕ, ◌+◌, ◌<◌, List, length, slice_index, sum_by}
-use Rattle.guest_text.specs.InlinedSize.{body_of, taken_in, inlined_size}
-use Rattle.guest_text.specs.declared.instr.Func.{Func}
+use Rattle.guest_program.specs.InlinedSize.{body_of, taken_in, inlined_size}
+use Rattle.guest_program.specs.declared.instr.Func.{Func}
 use Rattle.code_event.specs.declared.layout.TheConstants.Layout.{MAX_SLOTS}
 use Rattle.code_layout.specs.declared.refused.LayoutRefused.{LayoutRefused}
 use Rattle.code_layout.specs.declared.refused.LayoutRefused.TheVariants.{TooLarge, Memory}

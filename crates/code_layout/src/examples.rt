@@ -1,7 +1,7 @@
 //! Layouts of small programs, worked out by hand. Each function does nothing: its contract is the
 //! example.
 ghost use Rattle.std.specs.Prelude.{◌≡◌, ℕ, ◌+◌, [], ◌∷◌, Some, None};
-ghost use Rattle.guest_text.specs.InlinedSize.{inlined_size};
+ghost use Rattle.guest_program.specs.InlinedSize.{inlined_size};
 ghost use Rattle.code_layout.specs.Layouts.{plain_layout, inlined_layout};
 ghost use Rattle.code_layout.specs.Laws.{slot_of};
 ghost use Rattle.code_layout.specs.Examples.{chained, circling, calling, slots_of, funcs_of, sites_of};

@@ -1,7 +1,7 @@
 // The two layouts of a function's code.
 ghost use Rattle.std.specs.Prelude.{◌≡◌, ◌<◌, ◌≤◌, length, IfOk, OnOk, IfErr};
-ghost use Rattle.guest_text.specs.InlinedSize.{inlined_size};
-ghost use Rattle.guest_text.specs.Program.{IsProgram};
+ghost use Rattle.guest_program.specs.InlinedSize.{inlined_size};
+ghost use Rattle.guest_program.specs.Program.{IsProgram};
 ghost use Rattle.code_layout.specs.Layouts.{layout_to, plain_layout, inlined_layout};
 ghost use Rattle.code_layout.specs.Sizes.{IsRefusedAs};
 
@@ -9,7 +9,7 @@ use crate::parts::Parts;
 use crate::refused::LayoutRefused;
 use crate::sizes::inlined_size;
 use code_event::Layout;
-use guest_text::{Func, Program};
+use guest_program::{Func, Program};
 use prof_base::{FuncId, Memory};
 use std::alloc::Global;
 

@@ -1,12 +1,12 @@
 // Layouts that are being made.
 ghost use Rattle.std.specs.Prelude.{◌≡◌, ◌<◌, ◌≤◌, ◌⊎◌, ◌++◌, [], ◌∷◌, suc, length, Some, None, IfOk, IfSome, IfNone, OnOk};
 ghost use Rattle.std.specs.Option.{option_map};
-ghost use Rattle.guest_text.specs.Program.{IsProgram};
+ghost use Rattle.guest_program.specs.Program.{IsProgram};
 ghost use Rattle.code_event.specs.Layout.{IsLayout};
 ghost use Rattle.code_layout.specs.Layouts.{entry_of, unit_of, nothing, joined, inline_callee, inlined_at, expanded};
 
 use code_event::{Entry, Layout, Site, Slot, Unit};
-use guest_text::{Func, Op};
+use guest_program::{Func, Op};
 use prof_base::{FuncId, Memory, Sequence};
 use std::alloc::Global;
 use std::marker::Model;

@@ -1,12 +1,12 @@
 // Inlined sizes of all functions, by a table over depth and function. A row is computed from the one
 // before it, so the work is proportional to the program's text, however large the sizes are.
 ghost use Rattle.std.specs.Prelude.{◌≡◌, ℕ, ◌<◌, ◌≤◌, length, slice_index, All, IfOk};
-ghost use Rattle.guest_text.specs.InlinedSize.{taken_in, inlined_size};
-ghost use Rattle.guest_text.specs.Program.{IsProgram};
+ghost use Rattle.guest_program.specs.InlinedSize.{taken_in, inlined_size};
+ghost use Rattle.guest_program.specs.Program.{IsProgram};
 ghost use Rattle.code_layout.specs.Sizes.{AreSizes, size_by};
 
 use code_event::Layout;
-use guest_text::{Func, Instr, Op};
+use guest_program::{Func, Instr, Op};
 use prof_base::{FuncId, Memory};
 use std::alloc::Global;
 

@@ -4,11 +4,11 @@ use Rattle.std.proofs.lemmas.Bool.{and_from, and_parts, both_ways, cases_Bool, t
 use Rattle.std.specs.Prelude.{Bool, true, false, not, ◌&&◌, ◌||◌, Option, Some, None, nat_lt, nat_le, ◌==◌, is_some, slice_set, decimal, codes, if◌then◌else◌}
 use Rattle.std.specs.Option.{option_map_or}
 use Rattle.std.specs.List.{slice_get}
-use Rattle.guest_text.specs.InlinedSize.{body_of, inlined_size}
-use Rattle.guest_text.specs.declared.instr.Func.{Func}
-use Rattle.guest_text.specs.declared.instr.Instr.{Instr}
-use Rattle.guest_text.specs.declared.instr.Op.{Op}
-use Rattle.guest_text.specs.declared.instr.Op.TheVariants as op
+use Rattle.guest_program.specs.InlinedSize.{body_of, inlined_size}
+use Rattle.guest_program.specs.declared.instr.Func.{Func}
+use Rattle.guest_program.specs.declared.instr.Instr.{Instr}
+use Rattle.guest_program.specs.declared.instr.Op.{Op}
+use Rattle.guest_program.specs.declared.instr.Op.TheVariants as op
 use Rattle.code_event.specs.declared.tick.VmState.{VmState}
 use Rattle.code_event.specs.declared.tick.VmState.TheVariants.{Js, Idle, Native, Gc}
 use Rattle.guest_machine.specs.Laws.{DeoptsTakeCodeAway}

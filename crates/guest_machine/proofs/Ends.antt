@@ -3,7 +3,7 @@ use Rattle.std.proofs.Common.{◌≡◌, zero, suc, List, ap, ◌∙◌}
 use Rattle.std.proofs.Math.Nat.{add-suc, add-zero}
 use Rattle.std.proofs.lemmas.Bool.{cond-true}
 use Rattle.std.specs.Prelude.{Bool, true, not, ◌&&◌, is_some, if◌then◌else◌}
-use Rattle.guest_text.specs.declared.instr.Func.{Func}
+use Rattle.guest_program.specs.declared.instr.Func.{Func}
 use Rattle.guest_machine.specs.Laws.{EndsAreFinal, NoneIsGivenUpAtTheEnd}
 use Rattle.guest_machine.specs.PlainMachine.{State, plain, step, is_js, js_step, js_gives_up, wait_step}
 

@@ -4,12 +4,12 @@ use Rattle.std.proofs.lemmas.Bool.{cond_both}
 use Rattle.std.proofs.lemmas.Slice.Eq.{bytes_eq-Decides}
 use Rattle.std.specs.Prelude.{true, Some, is_some, bytes_eq, codes}
 use Rattle.std.specs.List.{slice_get, AllByRecursion}
-use Rattle.guest_text.specs.InlinedSize.{body_of}
-use Rattle.guest_text.specs.Program.{IsProgram, IsFunc, IsInstr, IsOp, IsMain}
-use Rattle.guest_text.specs.declared.instr.Func.{Func}
-use Rattle.guest_text.specs.declared.instr.Instr.{Instr}
-use Rattle.guest_text.specs.declared.instr.Op.{Op}
-use Rattle.guest_text.specs.declared.instr.Op.TheVariants as op
+use Rattle.guest_program.specs.InlinedSize.{body_of}
+use Rattle.guest_program.specs.Program.{IsProgram, IsFunc, IsInstr, IsOp, IsMain}
+use Rattle.guest_program.specs.declared.instr.Func.{Func}
+use Rattle.guest_program.specs.declared.instr.Instr.{Instr}
+use Rattle.guest_program.specs.declared.instr.Op.{Op}
+use Rattle.guest_program.specs.declared.instr.Op.TheVariants as op
 use Rattle.guest_machine.proofs.Kept.{Moves, OpFits, plain_keeps}
 use Rattle.guest_machine.specs.Laws.{IsInBody, FramesAreInBodies, FramesHaveInstructions}
 use Rattle.guest_machine.specs.PlainMachine.{Frame, plain, instr_of, main_of, main_from}

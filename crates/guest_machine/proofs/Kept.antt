@@ -5,11 +5,11 @@ use Rattle.std.proofs.lemmas.List.{length-set, length-map}
 use Rattle.std.specs.Prelude.{Option, Some, None, nat_lt, nat_le, ◌==◌, is_some, slice_set, decimal, codes, if◌then◌else◌}
 use Rattle.std.specs.List.{AllByRecursion}
 use Rattle.std.specs.Option.{option_map_or}
-use Rattle.guest_text.specs.InlinedSize.{body_of, inlined_size}
-use Rattle.guest_text.specs.declared.instr.Func.{Func}
-use Rattle.guest_text.specs.declared.instr.Instr.{Instr}
-use Rattle.guest_text.specs.declared.instr.Op.{Op}
-use Rattle.guest_text.specs.declared.instr.Op.TheVariants as op
+use Rattle.guest_program.specs.InlinedSize.{body_of, inlined_size}
+use Rattle.guest_program.specs.declared.instr.Func.{Func}
+use Rattle.guest_program.specs.declared.instr.Instr.{Instr}
+use Rattle.guest_program.specs.declared.instr.Op.{Op}
+use Rattle.guest_program.specs.declared.instr.Op.TheVariants as op
 use Rattle.code_event.specs.declared.tick.VmState.{VmState}
 use Rattle.code_event.specs.declared.tick.VmState.TheVariants.{Js, Idle, Native, Gc}
 use Rattle.guest_machine.specs.PlainMachine.{State, Frame, Code, plain_code, zeros, main_of, start, ends, rises, with_register, register, sets, jumps, calls, returns, waits, code_at, says, optimised, deoptimised, disabled, does, instr_of, js_step, wait_step, is_js, step, plain}

@@ -5,7 +5,7 @@ use Rattle.std.proofs.lemmas.List.{length-set}
 use Rattle.std.proofs.lemmas.Nat.{mod_below}
 use Rattle.std.specs.Prelude.{slice_set}
 use Rattle.std.specs.List.{AllByRecursion}
-use Rattle.guest_text.specs.declared.instr.Func.{Func}
+use Rattle.guest_program.specs.declared.instr.Func.{Func}
 use Rattle.guest_machine.proofs.Kept.{Moves, Kept, any_fits, plain_keeps}
 use Rattle.guest_machine.specs.Laws.{StacksAreNotEmpty, StacksAreSmall, CodeIsOfFunctions, HasRegisters, FramesHaveRegisters}
 use Rattle.guest_machine.specs.PlainMachine.{Frame, plain, with_register}

@@ -1,9 +1,9 @@
 -- Small programs that were run by hand.
 use Rattle.std.specs.Prelude.{ℕ, List, [], ◌∷◌, Bool, true, false, map, codes}
 use Rattle.prof_base.specs.declared.ids.FuncId.{FuncId}
-use Rattle.guest_text.specs.declared.instr.Op.{Op}
-use Rattle.guest_text.specs.declared.instr.Op.TheVariants as op
-use Rattle.guest_text.specs.declared.instr.Func.{Func}
+use Rattle.guest_program.specs.declared.instr.Op.{Op}
+use Rattle.guest_program.specs.declared.instr.Op.TheVariants as op
+use Rattle.guest_program.specs.declared.instr.Func.{Func}
 use Rattle.guest_machine.specs.PlainMachine.{State, Frame, frames}
 
 -- a function with these operations, all in line 1

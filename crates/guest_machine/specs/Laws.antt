@@ -1,9 +1,9 @@
 -- What holds of the plain machine for every program and every number of steps.
 use Rattle.std.specs.Prelude.{◌≡◌, ◌↔◌, ℕ, suc, ◌+◌, ◌^◌, ◌<◌, ◌≤◌, List, length, true, false, is_some}
 use Rattle.std.specs.List.{AllByRecursion}
-use Rattle.guest_text.specs.InlinedSize.{body_of}
-use Rattle.guest_text.specs.Program.{IsProgram}
-use Rattle.guest_text.specs.declared.instr.Func.{Func}
+use Rattle.guest_program.specs.InlinedSize.{body_of}
+use Rattle.guest_program.specs.Program.{IsProgram}
+use Rattle.guest_program.specs.declared.instr.Func.{Func}
 use Rattle.guest_machine.specs.PlainMachine.{Frame, plain, deopts, code_at, instr_of}
 
 -- where the machine has ended after a number of steps, it is the same after any further steps

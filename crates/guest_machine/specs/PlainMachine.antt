@@ -2,11 +2,11 @@
 use Rattle.std.specs.Prelude.{bytes_eq, ℕ, zero, suc, ◌+◌, ◌-◌, ◌*◌, ◌%◌, ◌^◌, List, [], ◌∷◌, ◌++◌, length, map, reverse, Bool, true, false, not, ◌&&◌, ◌||◌, ◌==◌, nat_lt, nat_le, Option, Some, None, is_some, codes, decimal, slice_index, slice_set, if◌then◌else◌}
 use Rattle.std.specs.Option.{option_map_or}
 use Rattle.std.specs.List.{slice_get}
-use Rattle.guest_text.specs.InlinedSize.{body_of, inlined_size}
-use Rattle.guest_text.specs.declared.instr.Op.{Op}
-use Rattle.guest_text.specs.declared.instr.Op.TheVariants as op
-use Rattle.guest_text.specs.declared.instr.Instr.{Instr}
-use Rattle.guest_text.specs.declared.instr.Func.{Func}
+use Rattle.guest_program.specs.InlinedSize.{body_of, inlined_size}
+use Rattle.guest_program.specs.declared.instr.Op.{Op}
+use Rattle.guest_program.specs.declared.instr.Op.TheVariants as op
+use Rattle.guest_program.specs.declared.instr.Instr.{Instr}
+use Rattle.guest_program.specs.declared.instr.Func.{Func}
 use Rattle.code_event.specs.declared.tick.VmState.{VmState}
 use Rattle.code_event.specs.declared.tick.VmState.TheVariants.{Js, Idle, Native, Gc}
 use Rattle.guest_machine.specs.declared.ended.Ended.{Ended}

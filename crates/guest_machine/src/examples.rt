@@ -2,7 +2,7 @@
 //! contract is the example.
 ghost use Rattle.std.specs.Prelude.{◌≡◌, [], ◌∷◌, Some, None, true, false, codes, length};
 ghost use Rattle.guest_machine.specs.PlainMachine.{plain, deopts, code_at};
-ghost use Rattle.guest_text.specs.InlinedSize.{inlined_size};
+ghost use Rattle.guest_program.specs.InlinedSize.{inlined_size};
 ghost use Rattle.guest_machine.specs.Examples.{places, waiting, calling, deep, running_off, growing, deoptimising, deoptimising_last, disabling, registers_of};
 ghost use Rattle.guest_machine.specs.declared.ended.Ended.TheVariants as end;
 ghost use Rattle.code_event.specs.declared.tick.VmState.TheVariants as state;

@@ -1,5 +1,9 @@
-pub mod Program
+pub mod ProgramLine
+pub mod Outline
+pub mod OutlineDraft
+pub mod LineForms
+pub mod ProgramRules
 pub mod ProgramText
-pub mod Reading
+pub mod Draft
+pub mod TextLaws
 pub mod Straight
-pub mod InlinedSize

@@ -1,97 +1,75 @@
--- The one canonical text of a program.
-use Rattle.std.specs.Prelude.{ℕ, List, [], ◌∷◌, ◌++◌, Bool, true, false, ◌||◌, ◌==◌, if◌then◌else◌, codes, decimal, flat_map}
-use Rattle.guest_text.specs.declared.instr.Op.{Op}
-use Rattle.guest_text.specs.declared.instr.Op.TheVariants.{Set, Add, Sub, Mul, Lt, Jump, Jz, Call, Ret, Print, Halt, Opt, Deopt, NoOpt, Drop, Gc, Idle, Native, Collect}
-use Rattle.guest_text.specs.declared.instr.Instr.{Instr}
-use Rattle.guest_text.specs.declared.instr.Func.{Func}
-use Rattle.guest_text.specs.Program.{label_at}
+-- Programs and their text.
+use Rattle.std.specs.Prelude.{◌≡◌, ℕ, List, [], ◌∷◌, map, flat_map}
+use Rattle.prof_lines.specs.declared.fault.Cause.{Cause}
+use Rattle.prof_lines.specs.declared.fault.Cause.TheVariants as causes
+use Rattle.prof_lines.specs.Lines.{counted}
+use Rattle.prof_lines.specs.Folds.{IsTextFault}
+use Rattle.prof_lines.specs.Canonical.{text_of}
+use Rattle.prof_lines.specs.Values.{EachIsSpelled}
+use Rattle.guest_program.specs.declared.instr.Func.{Func}
+use Rattle.guest_text.specs.declared.rule.Rule.{Rule}
+use Rattle.guest_text.specs.declared.rule.Rule.TheVariants as rule
+use Rattle.guest_text.specs.declared.refused.ProgramCause.{ProgramCause}
+use Rattle.guest_text.specs.declared.refused.ProgramCause.TheVariants as public
+use Rattle.guest_text.specs.declared.refused.ProgramRefused.{ProgramRefused}
+use Rattle.guest_text.specs.declared.refused.ProgramRefused.TheVariants as refused
+use Rattle.guest_text.specs.declared.program_line.Head.{Head}
+use Rattle.guest_text.specs.declared.program_line.ProgramLine.{ProgramLine}
+use Rattle.guest_text.specs.declared.program_line.ProgramLine.TheVariants as line
+use Rattle.guest_text.specs.Outline.{functions_of}
+use Rattle.guest_text.specs.ProgramLine.{line_words}
+use Rattle.guest_text.specs.ProgramRules.{program_next, program_end}
 
--- a byte of a quoted text: `"` and `\` are written after a `\`
-abbrev pub escaped_byte : ℕ → List ℕ
-escaped_byte b = if b == 34 || b == 92 then 92 ∷ b ∷ [] else b ∷ []
-
-abbrev pub escaped : List ℕ → List ℕ
-escaped text = flat_map escaped_byte text
-
--- A word follows a space: a text in quotes,
-abbrev pub quoted_word : List ℕ → List ℕ
-quoted_word text = codes " \"" ++ escaped text ++ codes "\""
-
--- a number,
-abbrev pub number_word : ℕ → List ℕ
-number_word n = codes " " ++ decimal n
-
--- a register,
-abbrev pub reg_word : ℕ → List ℕ
-reg_word reg = codes " r" ++ decimal reg
-
--- a function, by its label.
-abbrev pub label_word : List Func → ℕ → List ℕ
-label_word funcs number = codes " " ++ label_at funcs number
-
--- what an operation is called
-abbrev pub op_name : Op → List ℕ
-op_name (Set reg number) = codes "set"
-op_name (Add to from) = codes "add"
-op_name (Sub to from) = codes "sub"
-op_name (Mul to from) = codes "mul"
-op_name (Lt to from) = codes "lt"
-op_name (Jump place) = codes "jump"
-op_name (Jz reg place) = codes "jz"
-op_name (Call func) = codes "call"
-op_name Ret = codes "ret"
-op_name (Print reg) = codes "print"
-op_name Halt = codes "halt"
-op_name (Opt func) = codes "opt"
-op_name (Deopt func reason) = codes "deopt"
-op_name (NoOpt func reason) = codes "noopt"
-op_name (Drop func) = codes "drop"
-op_name Gc = codes "gc"
-op_name (Idle steps) = codes "idle"
-op_name (Native steps) = codes "native"
-op_name (Collect steps) = codes "collect"
-
--- the words after an operation's name
-abbrev pub operands : List Func → Op → List ℕ
-operands funcs (Set reg number) = reg_word reg ++ number_word number
-operands funcs (Add to from) = reg_word to ++ reg_word from
-operands funcs (Sub to from) = reg_word to ++ reg_word from
-operands funcs (Mul to from) = reg_word to ++ reg_word from
-operands funcs (Lt to from) = reg_word to ++ reg_word from
-operands funcs (Jump place) = number_word place
-operands funcs (Jz reg place) = reg_word reg ++ number_word place
-operands funcs (Call func) = label_word funcs func.0
-operands funcs Ret = []
-operands funcs (Print reg) = reg_word reg
-operands funcs Halt = []
-operands funcs (Opt func) = label_word funcs func.0
-operands funcs (Deopt func reason) = label_word funcs func.0 ++ quoted_word reason
-operands funcs (NoOpt func reason) = label_word funcs func.0 ++ quoted_word reason
-operands funcs (Drop func) = label_word funcs func.0
-operands funcs Gc = []
-operands funcs (Idle steps) = number_word steps
-operands funcs (Native steps) = number_word steps
-operands funcs (Collect steps) = number_word steps
-
--- the line of an instruction, among the functions of its program
-abbrev pub instr_line : List Func → Instr → List ℕ
-instr_line funcs instr = decimal instr.line ++ codes " " ++ op_name instr.op ++ operands funcs instr.op ++ codes "\n"
-
--- the last word of a function's line, or nothing
-abbrev pub inline_word : Bool → List ℕ
-inline_word true = codes " inline"
-inline_word false = []
-
--- the line of a function
-abbrev pub func_line : Func → List ℕ
-func_line func =
-    codes "func " ++ func.label ++ quoted_word func.name ++ quoted_word func.url
-    ++ number_word func.script ++ number_word func.line ++ number_word func.column ++ inline_word func.inline ++ codes "\n"
+-- a function without its instructions
+abbrev pub head_of : Func → Head
+head_of func =
+    record {
+      label = func.label;
+      name = func.name;
+      url = func.url;
+      script = func.script;
+      line = func.line;
+      column = func.column;
+      inline = func.inline;
+    }
 
 -- a function: its line, then its instructions
-abbrev pub func_text : List Func → Func → List ℕ
-func_text funcs func = func_line func ++ flat_map (instr_line funcs) func.body
+abbrev pub func_lines : Func → List ProgramLine
+func_lines func = line.Func (head_of func) ∷ map (λ instr. line.Instr instr) func.body
 
--- a program: its functions in order
+-- the lines of functions in order
+abbrev pub program_lines : List Func → List ProgramLine
+program_lines funcs = flat_map func_lines funcs
+
+abbrev pub labels_of : List Func → List (List ℕ)
+labels_of funcs = map (λ func. func.label) funcs
+
+-- The lines of a text that are not passed over spell these functions, line by line.
+abbrev pub Spells : List ℕ → List Func → Type 0
+Spells text funcs = EachIsSpelled (line_words (labels_of funcs)) (program_lines funcs) (counted text)
+
+-- the canonical text of functions
 abbrev pub program_text : List Func → List ℕ
-program_text funcs = flat_map (func_text funcs) funcs
+program_text funcs = text_of (line_words (labels_of funcs)) (program_lines funcs)
+
+abbrev pub program_cause : Cause Rule → ProgramCause
+program_cause causes.Word = public.Word
+program_cause causes.Number = public.Number
+program_cause (causes.Own rule.UnknownName) = public.UnknownName
+program_cause (causes.Own rule.Twice) = public.Twice
+program_cause (causes.Own rule.Limit) = public.Limit
+program_cause (causes.Own rule.NoMain) = public.NoMain
+
+-- the first fault of a text is at this line, and has this cause
+abbrev pub IsRefusedAt : List ℕ → ℕ → ProgramCause → Type 0
+IsRefusedAt text number cause = (own : Cause Rule) × IsTextFault (program_next (functions_of (counted text))) program_end [] text (number, own) × (cause ≡ program_cause own)
+
+-- what a refusal says of the text; out of memory says nothing of it
+abbrev pub IsRefused : List ℕ → ProgramRefused → Type 0
+IsRefused text (refused.At number cause) = IsRefusedAt text number cause
+IsRefused text refused.Memory = Unit {0}
+
+-- only out of memory
+abbrev pub IsMemory : ProgramRefused → Type 0
+IsMemory (refused.At number cause) = ⊥
+IsMemory refused.Memory = Unit {0}

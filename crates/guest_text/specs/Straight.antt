@@ -1,12 +1,14 @@
--- The programs that can be read.
+-- The programs that can be run today.
 use Rattle.std.specs.Prelude.{◌≡◌, ◌-◌, ℕ, List, [], ◌∷◌, length, Bool, true, false, Option, Some, None}
 use Rattle.std.specs.List.{slice_get, AllByRecursion}
-use Rattle.guest_text.specs.Program.{IsProgram}
+use Rattle.guest_program.specs.Program.{IsProgram}
 use Rattle.guest_text.specs.ProgramText.{program_text}
-use Rattle.guest_text.specs.declared.instr.Op.{Op}
-use Rattle.guest_text.specs.declared.instr.Op.TheVariants.{Set, Halt}
-use Rattle.guest_text.specs.declared.instr.Instr.{Instr}
-use Rattle.guest_text.specs.declared.instr.Func.{Func}
+use Rattle.guest_program.specs.declared.instr.Op.{Op}
+use Rattle.guest_program.specs.declared.instr.Op.TheVariants.{Set, Halt}
+use Rattle.guest_program.specs.declared.instr.Instr.{Instr}
+use Rattle.guest_program.specs.declared.instr.Func.{Func}
+use Rattle.guest_text.specs.declared.refused.ProgramRefused.{ProgramRefused}
+use Rattle.guest_text.specs.declared.refused.ProgramRefused.TheVariants as refused
 
 -- a number is put into a register, or the program ends
 abbrev pub IsSetOrHalt : Op → Type 0
@@ -38,10 +40,15 @@ IsStraight [] = ⊥
 IsStraight (func ∷ []) = (func.inline ≡ false) × IsStraightBody func.body
 IsStraight (func ∷ other ∷ funcs) = ⊥
 
--- the text of a program that can be read
+-- the canonical text of a program that can be run today
 abbrev pub HasReading : List ℕ → Type 0
 HasReading text = (funcs : List Func) × IsProgram funcs × IsStraight funcs × (text ≡ program_text funcs)
 
--- no other program that can be read has this text
+-- no other program that can be run today has this text
 abbrev pub IsOnlyReading : List ℕ → List Func → Type 0
 IsOnlyReading text program = (funcs : List Func) → IsProgram funcs → IsStraight funcs → text ≡ program_text funcs → funcs ≡ program
+
+-- the claim holds if a line is at fault
+abbrev pub IfAt : ProgramRefused → Type 0 → Type 0
+IfAt (refused.At line cause) Claim = Claim
+IfAt refused.Memory Claim = Unit {0}

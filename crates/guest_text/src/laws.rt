@@ -1,12 +1,15 @@
-// Laws of the types. Each function does nothing: its contract is the law.
-ghost use Rattle.std.specs.Prelude.{◌≡◌};
+// Laws of programs and their texts, each the contract of a function that does nothing.
+ghost use Rattle.guest_text.specs.TextLaws.{CanonicalTextsSpell, TextsSpellOneProgram, CanonicalTextsStay, ProgramsHaveTheirTexts};
 
-use crate::instr::Func;
-use crate::reg::Reg;
+/// The canonical text of a program is read as this program again, and programs with the same canonical
+/// text are equal.
+pub fn what_was_written_is_read_again()
+    ensures spell { CanonicalTextsSpell }
+    ensures one { TextsSpellOneProgram }
+    ensures texts { ProgramsHaveTheirTexts }
+{}
 
-/// States the limits that contracts cite by name: the number of the last register, and the length
-/// of the longest body.
-pub fn limits()
-    ensures register { Reg.LAST ≡ 7 }
-    ensures body { Func.MAX_BODY ≡ 4096 }
+/// A canonical text is written again as it was.
+pub fn canonical_texts_are_written_again()
+    ensures { CanonicalTextsStay }
 {}

@@ -1,19 +1,19 @@
-//! Guest programs and their text: lists of functions, each a list of instructions, one a line.
+//! The text of guest programs: a line for each function and each instruction.
 #![tactic(auto)]
 
-mod instr;
+mod draft;
 pub mod laws;
-mod lexer;
-mod line;
-mod program;
+mod line_form;
+mod outline;
+mod program_line;
 mod reading;
 mod refused;
-mod reg;
+mod rule;
+mod straight;
+mod word_set;
 mod writing;
 
-pub use instr::{Func, Instr, Op};
-pub use program::Program;
 pub use reading::read_program;
 pub use refused::{ProgramCause, ProgramRefused};
-pub use reg::Reg;
-pub use writing::{write_functions, write_program};
+pub use straight::read_straight_program;
+pub use writing::write_program;

@@ -1,197 +1,99 @@
 // Programs from their text.
-ghost use Rattle.std.specs.Prelude.{◌≡◌, ◌≤◌, ◌∷◌, [], length, codes, IfOk, IfErr};
-ghost use Rattle.std.specs.List.{AllByRecursion};
-ghost use Rattle.guest_text.specs.Program.{IsProgram};
-ghost use Rattle.guest_text.specs.ProgramText.{program_text};
-ghost use Rattle.guest_text.specs.Straight.{ends_in_halt, IsStraight, HasReading, IsOnlyReading};
-ghost use Rattle.guest_text.specs.Reading.{Reads, IfAt, body_at, func_at, func_of, IsHead, IsReadInstr, IsLone};
+ghost use Rattle.std.specs.Prelude.{◌≡◌, ◌≤◌, ℕ, List, [], length, IfOk, IfErr, IfSome, IfNone};
+ghost use Rattle.prof_lines.specs.Answers.{Reads};
+ghost use Rattle.prof_lines.specs.Folds.{placed};
+ghost use Rattle.guest_program.specs.declared.instr.Func.{Func};
+ghost use Rattle.guest_program.specs.Program.{IsProgram, IsMain};
+ghost use Rattle.guest_text.specs.ProgramRules.{program_end, rest_of, lines_read};
+ghost use Rattle.guest_text.specs.ProgramText.{program_lines, Spells, IsRefused, IsMemory};
 
-use crate::instr::{Func, Instr, Op};
-use crate::line::{Head, first_line, instr_line};
-use crate::program::Program;
-use crate::refused::{LineFault, ProgramCause, ProgramRefused};
-use crate::writing::write_program;
-use prof_base::{Sequence, Text, TextRefused};
-use std::alloc::{AllocError, Global};
+use crate::draft::Draft;
+use crate::outline::Outline;
+use crate::refused::{ProgramRefused, program_cause};
+use crate::rule::Rule;
+use guest_program::{Func, Program};
+use prof_base::Memory;
+use prof_lines::{Cause, LineFault, Lines, TextFault};
+use std::alloc::Global;
 
-// Reads the instructions of the lines, at most `room` of them. The first is line 2.
-fn body(alloc: Global, room: u32, bytes: &[u8]) -> Result<Sequence<Instr>, ProgramRefused>
-    requires { room ≤ Func.MAX_BODY }
-    ensures body { Reads result (body_at room bytes.now) }
-    ensures each { IfOk result (λ body. AllByRecursion IsReadInstr body) }
-    ensures short { IfOk result (λ body. length body ≤ room) }
+// The number of the function labelled `main`.
+fn main_of(funcs: &[Func]) -> Option<u16>
+    requires { length funcs.now ≤ Program.MAX_FUNCS }
+    ensures some { IfSome result (λ number. IsMain funcs.now number) }
+    ensures none { IfNone result ((number : ℕ) → ¬ IsMain funcs.now number) }
 {
-    let mut body = Sequence::new(alloc);
-    let mut rest = bytes;
-    for done in 0..room {
-        if rest.is_empty() {
-            return Ok(body);
-        }
-        match instr_line(rest) {
-            Some((instr, after)) => {
-                body.push(instr)?;
-                rest = after;
-            }
-            None => {
-                return Err(ProgramRefused::At {
-                    line: done + 2,
-                    cause: ProgramCause::Word,
-                });
-            }
+    for (number, func) in funcs.iter().enumerate() {
+        if func.label.bytes() == b"main".as_slice() {
+            return Some(number as u16);
         }
     }
-    if rest.is_empty() {
-        Ok(body)
-    } else {
-        Err(ProgramRefused::At {
-            line: line_after(body.as_slice()),
-            cause: ProgramCause::Word,
-        })
-    }
+    None
 }
 
-fn ends_in_halt(body: &[Instr]) -> bool
-    ensures { result ≡ ends_in_halt body.now }
+// The functions that the lines make, and the number of the one labelled `main`.
+fn whole(draft: Draft, after: u64) -> Result<(Vec<Func>, u16), TextFault<Rule>>
+    ensures lines { Reads (λ x. program_lines x.0.items) result (placed after (program_end draft)) }
+    ensures main { IfOk result (λ x. IsMain x.0.items x.1) }
 {
-    match body.last() {
-        Some(instr) => matches!(&instr.op, Op::Halt),
-        None => false,
-    }
-}
-
-// Returns the number of the line after the body. After a full body that does not end in `halt` it
-// returns that of the last line of the body, since no line may follow.
-fn line_after(body: &[Instr]) -> u32
-    requires { length body.now ≤ Func.MAX_BODY }
-{
-    let after = body.len() as u32 + 2;
-    if after == Func::MAX_BODY + 2 && !ends_in_halt(body) {
-        after - 1
-    } else {
-        after
-    }
-}
-
-fn main_label(alloc: Global) -> Result<Text, AllocError>
-    ensures { IfOk result (λ label. label ≡ codes "main") }
-{
-    match Text::new(alloc, b"main") {
-        Ok(label) => Ok(label),
-        Err(TextRefused::Memory) => Err(AllocError),
-        Err(TextRefused::TooLong | TextRefused::NotPrintable { .. }) => unreachable!(),
-    }
-}
-
-// Makes the function labelled `main` with these parts.
-fn main_func(alloc: Global, head: Head, body: Sequence<Instr>) -> Result<Func, AllocError>
-    ensures { IfOk result (λ func. func ≡ func_of head body) }
-{
-    let label = main_label(alloc)?;
-    let Head {
-        name,
-        url,
-        script,
-        line,
-        column,
-    } = head;
-    Ok(Func {
-        label,
-        name,
-        url,
-        script,
-        line,
-        column,
-        inline: false,
-        body,
-    })
-}
-
-#[tactic(auto, unfolding(crate::specs::Reading::func_at))]
-fn func(alloc: Global, text: &[u8]) -> Result<Func, ProgramRefused>
-    ensures func { Reads result (func_at text.now) }
-    ensures lone { IfOk result (λ func. IsLone func) }
-{
-    match first_line(alloc, text) {
-        Ok((head, rest)) => {
-            let body = body(alloc, Func::MAX_BODY, rest)?;
-            if ends_in_halt(body.as_slice()) {
-                Ok(main_func(alloc, head, body)?)
-            } else {
-                Err(ProgramRefused::At {
-                    line: line_after(body.as_slice()),
-                    cause: ProgramCause::Word,
-                })
-            }
-        }
-        Err(LineFault::Word) => Err(ProgramRefused::At {
-            line: 1,
-            cause: ProgramCause::Word,
-        }),
-        Err(LineFault::Memory) => Err(ProgramRefused::Memory),
-    }
-}
-
-// Makes the program of this function.
-fn lone(alloc: Global, func: Func) -> Result<Program, AllocError>
-    requires { IsLone func }
-    ensures { IfOk result (λ program. program ≡ func ∷ []) }
-{
-    let mut functions = Vec::new(alloc);
-    functions.push(func)?;
-    Ok(Program::new(functions, 0))
-}
-
-// Reads a program. This contract does not say how the text is spelled.
-fn program(alloc: Global, text: &[u8]) -> Result<Program, ProgramRefused>
-    ensures straight { IfOk result (λ program. IsStraight program) }
-    ensures rules { IfOk result (λ program. IsProgram program) }
-    ensures only { IfOk result (λ program. IsOnlyReading text.now program) }
-    ensures refused { IfErr result (λ refusal. IfAt refusal (¬ HasReading text.now)) }
-{
-    let func = func(alloc, text)?;
-    Ok(lone(alloc, func)?)
-}
-
-// Refuses a text at the line where it first differs from the canonical one.
-fn difference(text: &[u8], canonical: &[u8]) -> ProgramRefused {
-    let mut line = 1u32;
-    for (byte, wanted) in text.iter().zip(canonical.iter()) {
-        if *byte != *wanted {
-            break;
-        }
-        if *byte == b'\n' {
-            match line.checked_add(1) {
-                Some(next) => line = next,
-                None => return ProgramRefused::Memory,
-            }
+    let Ok(funcs) = draft.into_funcs() else {
+        return Err(TextFault::Memory);
+    };
+    match main_of(funcs.as_slice()) {
+        Some(main) => Ok((funcs, main)),
+        None => {
+            let fault: LineFault<Rule> = LineFault::At(Cause::Own(Rule::NoMain));
+            Err(fault.at(after))
         }
     }
-    ProgramRefused::At {
-        line,
-        cause: ProgramCause::Word,
+}
+
+fn rest(alloc: Global, outline: &Outline, lines: Lines) -> Result<(Vec<Func>, u16), TextFault<Rule>>
+    ensures lines { Reads (λ x. program_lines x.0.items) result (rest_of outline.now [] lines.entry.lines lines.entry.after) }
+    ensures main { IfOk result (λ x. IsMain x.0.items x.1) }
+{
+    let mut lines = lines;
+    let mut draft = Draft::new(alloc);
+    while let Some((number, bytes)) = lines.next() {
+        match draft.next(alloc, outline, bytes) {
+            Ok(next) => draft = next,
+            Err(fault) => return Err(fault.at(number)),
+        }
+    }
+    whole(draft, lines.at())
+}
+
+fn read(alloc: Global, text: &[u8]) -> Result<(Vec<Func>, u16), TextFault<Rule>>
+    ensures lines { Reads (λ x. program_lines x.0.items) result (lines_read text.now) }
+    ensures main { IfOk result (λ x. IsMain x.0.items x.1) }
+{
+    match Outline::new(alloc, text) {
+        Ok(outline) => rest(alloc, &outline, Lines::new(text)),
+        Err(Memory) => Err(TextFault::Memory),
     }
 }
 
-/// Reads the canonical text of a program with one function, which is not inline and whose
-/// instructions are `set` and `halt`, the last of them `halt`. It reads no other text yet.
+/// Reads the text of a program.
 ///
 /// # Errors
 ///
-/// `At` where the text is none of these, with the first line that differs from them and the cause
-/// `Word`. `Memory` when out of memory.
+/// `At` where the text is no program's, with the first line at fault and its first fault. `Memory`
+/// when out of memory, and where the refused line has a number above 2^32 - 1.
 pub fn read_program(alloc: Global, text: &[u8]) -> Result<Program, ProgramRefused>
-    ensures straight { IfOk result (λ program. IsStraight program) }
+    // The text's lines spell the program that is read.
+    ensures spelled { IfOk result (λ program. Spells text.now program) }
     ensures rules { IfOk result (λ program. IsProgram program) }
-    ensures spelled { IfOk result (λ program. text.now ≡ program_text program) }
-    ensures only { IfOk result (λ program. IsOnlyReading text.now program) }
-    ensures refused { IfErr result (λ refusal. IfAt refusal (¬ HasReading text.now)) }
+    // A program that a text's lines spell is read, unless out of memory.
+    ensures only { (funcs : List Func) → IsProgram funcs → Spells text.now funcs → IfOk result (λ read. read ≡ funcs) }
+    ensures never { (funcs : List Func) → IsProgram funcs → Spells text.now funcs → IfErr result (λ refusal. IsMemory refusal) }
+    // The refused line is the first with a fault, and the cause is its first fault.
+    ensures refused { IfErr result (λ refusal. IsRefused text.now refusal) }
 {
-    let program = program(alloc, text)?;
-    let canonical = write_program(alloc, &program)?;
-    // Reading takes no other spelling, so these are equal: comparing them spares the proof.
-    if text == canonical.as_slice() {
-        Ok(program)
-    } else {
-        Err(difference(text, canonical.as_slice()))
+    match read(alloc, text) {
+        Ok((funcs, main)) => Ok(Program::new(funcs, main)),
+        Err(TextFault::Memory) => Err(ProgramRefused::Memory),
+        Err(TextFault::At { line, cause }) => Err(ProgramRefused::At {
+            line,
+            cause: program_cause(cause),
+        }),
     }
 }

@@ -1,13 +1,18 @@
 // Why a program's text is refused.
-use prof_base::Memory;
-use std::alloc::{AllocError, AllocFailed};
+ghost use Rattle.std.specs.Prelude.{◌≡◌};
+ghost use Rattle.guest_text.specs.ProgramText.{program_cause};
 
-/// What is wrong with a line of a program's text.
+use crate::rule::Rule;
+use prof_base::Memory;
+use prof_lines::Cause;
+
+/// What is wrong with a line of a program's text, or with its end.
 #[derive(Clone, Copy, Debug, PartialEq, Eq)]
 pub enum ProgramCause {
-    /// A word is missing, is one too many, or is not allowed here.
+    /// A word is missing, is one too many or does not belong here, or an instruction comes before the
+    /// first function.
     Word,
-    /// The word is not a number but should be, or the number is out of range.
+    /// A word is no number in the range of its place.
     Number,
     /// No function has this label.
     UnknownName,
@@ -23,17 +28,10 @@ pub enum ProgramCause {
 /// Why a text was not read as a program.
 #[derive(Clone, Copy, Debug, PartialEq, Eq)]
 pub enum ProgramRefused {
-    /// The line `line`, counted from 1, is the first that differs from the texts that can be read.
-    /// It is the number of lines plus 1 if the fault is after the last one.
+    /// The first line at fault, counted from 1, and its first fault. The line is the number of lines
+    /// plus 1 where no function is `main`.
     At { line: u32, cause: ProgramCause },
-    /// Out of memory.
-    Memory,
-}
-
-// Why a part of a line was not read.
-#[derive(Clone, Copy, Debug, PartialEq, Eq)]
-pub(crate) enum LineFault {
-    Word,
+    /// Out of memory, or the refused line has a number above 2^32 - 1.
     Memory,
 }
 
@@ -48,24 +46,15 @@ impl From<Memory> for ProgramRefused {
     }
 }
 
-impl From<AllocError> for ProgramRefused {
-    ghost use Rattle.std.specs.Prelude.{◌≡◌};
-    ghost use Rattle.guest_text.specs.declared.refused.ProgramRefused.TheVariants as refused;
-
-    ghost from_gives = { λ _ e. e ≡ refused.Memory };
-
-    fn from(_: AllocError) -> ProgramRefused {
-        ProgramRefused::Memory
-    }
-}
-
-impl<T: Drop> From<AllocFailed<T>> for LineFault {
-    ghost use Rattle.std.specs.Prelude.{◌≡◌};
-    ghost use Rattle.guest_text.specs.declared.refused.LineFault.TheVariants as faults;
-
-    ghost from_gives = { λ _ e. e ≡ faults.Memory };
-
-    fn from(_: AllocFailed<T>) -> LineFault {
-        LineFault::Memory
+pub(crate) fn program_cause(cause: Cause<Rule>) -> ProgramCause
+    ensures { result ≡ program_cause cause }
+{
+    match cause {
+        Cause::Word => ProgramCause::Word,
+        Cause::Number => ProgramCause::Number,
+        Cause::Own(Rule::UnknownName) => ProgramCause::UnknownName,
+        Cause::Own(Rule::Twice) => ProgramCause::Twice,
+        Cause::Own(Rule::Limit) => ProgramCause::Limit,
+        Cause::Own(Rule::NoMain) => ProgramCause::NoMain,
     }
 }

@@ -1,58 +1,44 @@
 // Programs as their canonical text.
-ghost use Rattle.std.specs.Prelude.{◌≡◌, ◌++◌, IfOk, OnOk, decimal, flat_map};
-ghost use Rattle.guest_text.specs.Program.{label_at};
-ghost use Rattle.guest_text.specs.ProgramText.{escaped, escaped_byte, quoted_word, number_word, reg_word, label_word, op_name, operands, inline_word, instr_line, func_line, func_text, program_text};
+ghost use Rattle.std.specs.Prelude.{◌≡◌, ◌++◌, [], ◌∷◌, List, ℕ, IfOk, OnOk, codes, decimal, map};
+ghost use Rattle.prof_lines.specs.Spelled.{quoted, optional_word};
+ghost use Rattle.prof_lines.specs.Canonical.{further, line_of, text_of};
+ghost use Rattle.guest_program.specs.Program.{IsProgram};
+ghost use Rattle.guest_text.specs.declared.program_line.ProgramLine.TheVariants as line;
+ghost use Rattle.guest_text.specs.ProgramLine.{reg_word, name_of, op_name, op_operands, entry_words, line_words};
+ghost use Rattle.guest_text.specs.ProgramText.{head_of, func_lines, program_lines, labels_of, program_text, Spells};
+ghost use Rattle.guest_text.specs.Draft.{entry_key};
 
-use crate::instr::{Func, Instr, Op};
-use crate::program::Program;
-use crate::reg::Reg;
+use crate::program_line::Head;
+use guest_program::{Func, Instr, Op, Program, Reg};
 use prof_base::{FuncId, Memory, Text, put_decimal};
-use std::alloc::{AllocError, Global};
+use prof_lines::put_quoted;
+use std::alloc::Global;
 
-fn put_escaped_byte(out: &mut Vec<u8>, byte: u8) -> Result<(), AllocError>
-    ensures { OnOk result (out.new.items ≡ out.old.items ++ escaped_byte byte) }
+fn put_number(out: &mut Vec<u8>, number: u64) -> Result<(), Memory>
+    ensures { OnOk result (out.new.items ≡ out.old.items ++ 32 ∷ decimal number) }
 {
-    if byte == b'"' || byte == b'\\' {
-        out.push(b'\\')?;
-    }
-    out.push(byte)?;
+    out.push(b' ')?;
+    put_decimal(out, number)?;
     Ok(())
 }
 
-fn put_escaped(out: &mut Vec<u8>, bytes: &[u8]) -> Result<(), AllocError>
-    ensures { OnOk result (out.new.items ≡ out.old.items ++ escaped bytes.now) }
+fn put_text(out: &mut Vec<u8>, text: &Text) -> Result<(), Memory>
+    ensures { OnOk result (out.new.items ≡ out.old.items ++ 32 ∷ quoted text.now) }
 {
-    for byte in bytes {
-        put_escaped_byte(out, *byte)?;
-    }
-    Ok(())
+    out.push(b' ')?;
+    put_quoted(out, text)
 }
 
-fn put_quoted(out: &mut Vec<u8>, text: &Text) -> Result<(), AllocError>
-    ensures { OnOk result (out.new.items ≡ out.old.items ++ quoted_word text.now) }
-{
-    out.extend_from_slice(b" \"")?;
-    put_escaped(out, text.bytes())?;
-    out.push(b'"')?;
-    Ok(())
-}
-
-fn put_number(out: &mut Vec<u8>, number: u64) -> Result<(), AllocError>
-    ensures { OnOk result (out.new.items ≡ out.old.items ++ number_word number) }
-{
-    out.extend_from_slice(b" ")?;
-    put_decimal(out, number)
-}
-
-fn put_reg(out: &mut Vec<u8>, reg: Reg) -> Result<(), AllocError>
-    ensures { OnOk result (out.new.items ≡ out.old.items ++ reg_word reg) }
+fn put_reg(out: &mut Vec<u8>, reg: Reg) -> Result<(), Memory>
+    ensures { OnOk result (out.new.items ≡ out.old.items ++ 32 ∷ reg_word reg) }
 {
     out.extend_from_slice(b" r")?;
-    put_decimal(out, u64::from(reg.number()))
+    out.push(b'0' + reg.number())?;
+    Ok(())
 }
 
 fn label(funcs: &[Func], func: FuncId) -> &[u8]
-    ensures { result.now ≡ label_at funcs.now func.0 }
+    ensures { result.now ≡ name_of (labels_of funcs.now) func.0 }
 {
     match funcs.get(usize::from(func.0)) {
         Some(func) => func.label.bytes(),
@@ -60,10 +46,10 @@ fn label(funcs: &[Func], func: FuncId) -> &[u8]
     }
 }
 
-fn put_label(out: &mut Vec<u8>, funcs: &[Func], func: FuncId) -> Result<(), AllocError>
-    ensures { OnOk result (out.new.items ≡ out.old.items ++ label_word funcs.now func.0) }
+fn put_label(out: &mut Vec<u8>, funcs: &[Func], func: FuncId) -> Result<(), Memory>
+    ensures { OnOk result (out.new.items ≡ out.old.items ++ 32 ∷ name_of (labels_of funcs.now) func.0) }
 {
-    out.extend_from_slice(b" ")?;
+    out.push(b' ')?;
     out.extend_from_slice(label(funcs, func))?;
     Ok(())
 }
@@ -94,34 +80,29 @@ fn op_name(op: &Op) -> &'static [u8]
     }
 }
 
-fn put_regs(out: &mut Vec<u8>, to: Reg, from: Reg) -> Result<(), AllocError>
-    ensures { OnOk result (out.new.items ≡ out.old.items ++ (reg_word to ++ reg_word from)) }
+fn put_regs(out: &mut Vec<u8>, to: Reg, from: Reg) -> Result<(), Memory>
+    ensures { OnOk result (out.new.items ≡ out.old.items ++ further (reg_word to ∷ reg_word from ∷ [])) }
 {
     put_reg(out, to)?;
     put_reg(out, from)
 }
 
-fn put_reg_number(out: &mut Vec<u8>, reg: Reg, number: u64) -> Result<(), AllocError>
-    ensures { OnOk result (out.new.items ≡ out.old.items ++ (reg_word reg ++ number_word number)) }
+fn put_reg_number(out: &mut Vec<u8>, reg: Reg, number: u64) -> Result<(), Memory>
+    ensures { OnOk result (out.new.items ≡ out.old.items ++ further (reg_word reg ∷ decimal number ∷ [])) }
 {
     put_reg(out, reg)?;
     put_number(out, number)
 }
 
-fn put_reason(
-    out: &mut Vec<u8>,
-    funcs: &[Func],
-    func: FuncId,
-    reason: &Text,
-) -> Result<(), AllocError>
-    ensures { OnOk result (out.new.items ≡ out.old.items ++ (label_word funcs.now func.0 ++ quoted_word reason.now)) }
+fn put_reason(out: &mut Vec<u8>, funcs: &[Func], func: FuncId, reason: &Text) -> Result<(), Memory>
+    ensures { OnOk result (out.new.items ≡ out.old.items ++ further (name_of (labels_of funcs.now) func.0 ∷ quoted reason.now ∷ [])) }
 {
     put_label(out, funcs, func)?;
-    put_quoted(out, reason)
+    put_text(out, reason)
 }
 
-fn put_operands(out: &mut Vec<u8>, funcs: &[Func], op: &Op) -> Result<(), AllocError>
-    ensures { OnOk result (out.new.items ≡ out.old.items ++ operands funcs.now op.now) }
+fn put_operands(out: &mut Vec<u8>, funcs: &[Func], op: &Op) -> Result<(), Memory>
+    ensures { OnOk result (out.new.items ≡ out.old.items ++ further (op_operands (labels_of funcs.now) op.now)) }
 {
     match op {
         Op::Set(reg, number) => put_reg_number(out, *reg, *number),
@@ -146,8 +127,8 @@ fn put_operands(out: &mut Vec<u8>, funcs: &[Func], op: &Op) -> Result<(), AllocE
     }
 }
 
-fn put_instr(out: &mut Vec<u8>, funcs: &[Func], instr: &Instr) -> Result<(), AllocError>
-    ensures { OnOk result (out.new.items ≡ out.old.items ++ instr_line funcs.now instr.now) }
+fn put_instr(out: &mut Vec<u8>, funcs: &[Func], instr: &Instr) -> Result<(), Memory>
+    ensures { OnOk result (out.new.items ≡ out.old.items ++ line_of (line_words (labels_of funcs.now) (line.Instr instr.now))) }
 {
     put_decimal(out, u64::from(instr.line))?;
     out.push(b' ')?;
@@ -157,8 +138,8 @@ fn put_instr(out: &mut Vec<u8>, funcs: &[Func], instr: &Instr) -> Result<(), All
     Ok(())
 }
 
-fn put_body(out: &mut Vec<u8>, funcs: &[Func], body: &[Instr]) -> Result<(), AllocError>
-    ensures { OnOk result (out.new.items ≡ out.old.items ++ flat_map (instr_line funcs.now) body.now) }
+fn put_body(out: &mut Vec<u8>, funcs: &[Func], body: &[Instr]) -> Result<(), Memory>
+    ensures { OnOk result (out.new.items ≡ out.old.items ++ text_of (line_words (labels_of funcs.now)) (map (λ instr. line.Instr instr) body.now)) }
 {
     for instr in body {
         put_instr(out, funcs, instr)?;
@@ -166,37 +147,68 @@ fn put_body(out: &mut Vec<u8>, funcs: &[Func], body: &[Instr]) -> Result<(), All
     Ok(())
 }
 
+// What tells functions apart in a profile.
+fn put_entry(
+    out: &mut Vec<u8>,
+    name: &Text,
+    url: &Text,
+    place: (u32, u32, u32),
+) -> Result<(), Memory>
+    ensures { OnOk result (out.new.items ≡ out.old.items ++ further (quoted name.now ∷ quoted url.now ∷ decimal place.0 ∷ decimal place.1 ∷ decimal place.2 ∷ [])) }
+{
+    let (script, line, column) = place;
+    put_text(out, name)?;
+    put_text(out, url)?;
+    put_number(out, u64::from(script))?;
+    put_number(out, u64::from(line))?;
+    put_number(out, u64::from(column))
+}
+
+/// The entry of a function's line as one word.
+pub(crate) fn entry_key(alloc: Global, head: &Head) -> Result<Vec<u8>, Memory>
+    ensures { IfOk result (λ key. key.items ≡ entry_key head.now) }
+{
+    let mut key = Vec::new(alloc);
+    put_entry(
+        &mut key,
+        &head.name,
+        &head.url,
+        (head.script, head.line, head.column),
+    )?;
+    Ok(key)
+}
+
 fn inline_word(inline: bool) -> &'static [u8]
-    ensures { result.now ≡ inline_word inline }
+    ensures { result.now ≡ further (optional_word (codes "inline") inline) }
 {
     if inline { b" inline" } else { b"" }
 }
 
-fn put_func_line(out: &mut Vec<u8>, func: &Func) -> Result<(), AllocError>
-    ensures { OnOk result (out.new.items ≡ out.old.items ++ func_line func.now) }
+fn put_func_line(out: &mut Vec<u8>, funcs: &[Func], func: &Func) -> Result<(), Memory>
+    ensures { OnOk result (out.new.items ≡ out.old.items ++ line_of (line_words (labels_of funcs.now) (line.Func (head_of func.now)))) }
 {
     out.extend_from_slice(b"func ")?;
     out.extend_from_slice(func.label.bytes())?;
-    put_quoted(out, &func.name)?;
-    put_quoted(out, &func.url)?;
-    put_number(out, u64::from(func.script))?;
-    put_number(out, u64::from(func.line))?;
-    put_number(out, u64::from(func.column))?;
+    put_entry(
+        out,
+        &func.name,
+        &func.url,
+        (func.script, func.line, func.column),
+    )?;
     out.extend_from_slice(inline_word(func.inline))?;
     out.push(b'\n')?;
     Ok(())
 }
 
-fn put_func(out: &mut Vec<u8>, funcs: &[Func], func: &Func) -> Result<(), AllocError>
-    ensures { OnOk result (out.new.items ≡ out.old.items ++ func_text funcs.now func.now) }
+fn put_func(out: &mut Vec<u8>, funcs: &[Func], func: &Func) -> Result<(), Memory>
+    ensures { OnOk result (out.new.items ≡ out.old.items ++ text_of (line_words (labels_of funcs.now)) (func_lines func.now)) }
 {
-    put_func_line(out, func)?;
+    put_func_line(out, funcs, func)?;
     put_body(out, funcs, func.body.as_slice())
 }
 
-/// Writes the canonical text of functions, in order, where each call names one of these. For the
-/// functions of a program this is the program's text.
-pub fn write_functions(alloc: Global, funcs: &[Func]) -> Result<Vec<u8>, Memory>
+// Writes functions in order, where each call names one of these.
+fn write_functions(alloc: Global, funcs: &[Func]) -> Result<Vec<u8>, Memory>
     ensures { IfOk result (λ text. text.items ≡ program_text funcs.now) }
 {
     let mut out = Vec::new(alloc);
@@ -206,10 +218,12 @@ pub fn write_functions(alloc: Global, funcs: &[Func]) -> Result<Vec<u8>, Memory>
     Ok(out)
 }
 
-/// Writes the program's canonical text: one space between words, no ignored lines, and byte 10
-/// after each line.
+/// Writes the program's canonical text: one space between words, no line that is passed over, and
+/// byte 10 after each line.
 pub fn write_program(alloc: Global, program: &Program) -> Result<Vec<u8>, Memory>
-    ensures { IfOk result (λ text. text.items ≡ program_text program.now) }
+    ensures text { IfOk result (λ text. text.items ≡ program_text program.now) }
+    // The text's lines spell the program, so that it is read again as this program.
+    ensures spells { IfOk result (λ text. Spells text.items program.now) }
 {
     write_functions(alloc, program.funcs())
 }

@@ -1,6 +1,6 @@
 -- What is seen of a run entry by entry, and which files it has.
 use Rattle.std.specs.Prelude.{◌≡◌, ℕ, ◌-◌, List, [], ◌∷◌, ◌++◌, map, length, Contains, true, Some, None, if◌then◌else◌}
-use Rattle.guest_text.specs.declared.instr.Func.{Func}
+use Rattle.guest_program.specs.declared.instr.Func.{Func}
 use Rattle.code_event.specs.FileLaws.{sessions_of}
 use Rattle.code_event.specs.ItemFile.{SessionFile, session}
 use Rattle.code_event.specs.Seen.{Seen}

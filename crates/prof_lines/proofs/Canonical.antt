@@ -22,7 +22,8 @@ further_stops : (words : List (List ℕ)) → Stops (further words)
 further_stops [] = tt
 further_stops (word ∷ words) = refl
 
-further_has : (words : List (List ℕ)) → HasWords words (further words)
+-- words, each after a space, are the words of their line
+pub further_has : (words : List (List ℕ)) → HasWords words (further words)
 further_has [] = (0, refl)
 further_has (word ∷ words) = (further words, record { before = 1; is = refl; stops = further_stops words }, further_has words)
 

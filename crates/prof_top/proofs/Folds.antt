@@ -4,7 +4,7 @@ use Rattle.std.proofs.lemmas.List.{append-nil}
 use Rattle.std.specs.Prelude.{flat_map, option_map, Option, Some, None, IfSome, Result, Ok, IsErrOf}
 use Rattle.code_event.specs.ItemFile.{SessionFile, item_files}
 use Rattle.code_event.specs.declared.tick.Item.{Item}
-use Rattle.guest_text.specs.declared.instr.Func.{Func}
+use Rattle.guest_program.specs.declared.instr.Func.{Func}
 use Rattle.isolate.specs.PlainFile.{plain_files}
 use Rattle.prof_base.specs.Causes.{Rose}
 use Rattle.item_fold.specs.Delivered.{Delivers}

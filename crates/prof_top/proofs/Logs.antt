@@ -5,8 +5,8 @@ use Rattle.std.proofs.lemmas.List.{append-nil}
 use Rattle.std.specs.List.{slice_get, All, AllByRecursion, Contains}
 use Rattle.std.specs.Option.{option_map_or}
 use Rattle.std.specs.Prelude.{Option, Bool, true, false, Some, None, if◌then◌else◌}
-use Rattle.guest_text.specs.declared.instr.Func.{Func}
-use Rattle.guest_text.specs.InlinedSize.{body_of}
+use Rattle.guest_program.specs.declared.instr.Func.{Func}
+use Rattle.guest_program.specs.InlinedSize.{body_of}
 use Rattle.guest_text.specs.Straight.{IsSetOrHalt, IsStraightBody}
 use Rattle.code_event.specs.DeoptReasons.{no_reasons}
 use Rattle.code_event.specs.ItemFile.{session, ends}

@@ -6,7 +6,7 @@ use Rattle.std.proofs.lemmas.Nat.Gcd.{dvd_antisymm, dvd_refl, dvd-zero}
 use Rattle.std.proofs.Math.Nat.{div_self, mod_self}
 use Rattle.std.specs.Prelude.{Bool, true, false, Some, None, map, if◌then◌else◌}
 use Rattle.std.specs.List.{AllByRecursion}
-use Rattle.guest_text.specs.declared.instr.Func.{Func}
+use Rattle.guest_program.specs.declared.instr.Func.{Func}
 use Rattle.code_event.proofs.EachElement.{all_pushed}
 use Rattle.code_event.specs.CodeMap.{same_entry}
 use Rattle.code_event.specs.DeoptReasons.{DeoptReasons, no_reasons}

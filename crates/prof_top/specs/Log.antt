@@ -1,9 +1,9 @@
 -- What a run has recorded after fewer steps than a number, in programs that go straight on to a halt.
 use Rattle.std.specs.Prelude.{◌≡◌, ℕ, zero, suc, ◌-◌, List, [], ◌∷◌, ◌++◌, true, false, Some, None, flat_map, if◌then◌else◌}
 use Rattle.std.specs.List.{AllByRecursion}
-use Rattle.guest_text.specs.InlinedSize.{body_of}
+use Rattle.guest_program.specs.InlinedSize.{body_of}
 use Rattle.guest_text.specs.Straight.{IsSetOrHalt}
-use Rattle.guest_text.specs.declared.instr.Func.{Func}
+use Rattle.guest_program.specs.declared.instr.Func.{Func}
 use Rattle.code_event.specs.ItemFile.{SessionFile, session, ends}
 use Rattle.code_event.specs.Profile.{finished_of}
 use Rattle.code_event.specs.Seen.{Seen, started}

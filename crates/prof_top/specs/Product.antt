@@ -1,7 +1,7 @@
 -- What comes of what a command line asks for: the schedules that are returned, the files that go to the stream, and the text that goes to `out`.
 use Rattle.std.specs.Prelude.{◌≡◌, ℕ, List, [], ◌∷◌}
 use Rattle.code_event.specs.ItemFile.{SessionFile, item_files}
-use Rattle.guest_text.specs.declared.instr.Func.{Func}
+use Rattle.guest_program.specs.declared.instr.Func.{Func}
 use Rattle.isolate.specs.PlainFile.{plain_files}
 use Rattle.item_text.specs.declared.items.ItemList.{ItemList}
 use Rattle.record_text.specs.ScheduleParts.{ScheduleParts}

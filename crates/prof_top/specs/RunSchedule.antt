@@ -1,6 +1,6 @@
 -- The schedule of a run.
 use Rattle.std.specs.Prelude.{◌≡◌, ℕ, List}
-use Rattle.guest_text.specs.declared.instr.Func.{Func}
+use Rattle.guest_program.specs.declared.instr.Func.{Func}
 use Rattle.isolate.specs.Fits.{Fits}
 use Rattle.record_text.specs.Schedule.{IsLegalSchedule}
 use Rattle.record_text.specs.ScheduleParts.{ScheduleParts}

@@ -1,6 +1,6 @@
 -- The schedule of a run under the step clock, which reads the time as the number of steps.
 use Rattle.std.specs.Prelude.{◌≡◌, ℕ, zero, suc, ◌-◌, ◌%◌, ◌≤◌, List, [], ◌∷◌, ◌++◌, length, take, Bool, not, ◌&&◌, ◌==◌, nat_le, None, if◌then◌else◌}
-use Rattle.guest_text.specs.declared.instr.Func.{Func}
+use Rattle.guest_program.specs.declared.instr.Func.{Func}
 use Rattle.code_event.specs.declared.event.Options.{Options}
 use Rattle.code_event.specs.declared.event.Mode.TheVariants.{Leaf}
 use Rattle.record_text.specs.declared.schedule.EndCause.{EndCause}

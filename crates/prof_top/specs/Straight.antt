@@ -1,7 +1,7 @@
 -- The plain machine in programs that go straight on to a halt.
 use Rattle.std.specs.Prelude.{◌≡◌, ℕ, List, [], ◌∷◌, map, Bool, Some, None, if◌then◌else◌}
 use Rattle.std.specs.List.{slice_get}
-use Rattle.guest_text.specs.declared.instr.Func.{Func}
+use Rattle.guest_program.specs.declared.instr.Func.{Func}
 use Rattle.code_event.specs.declared.tick.VmState.TheVariants.{Js}
 use Rattle.guest_machine.specs.PlainMachine.{State, plain, plain_code, main_of}
 use Rattle.guest_machine.specs.declared.ended.Ended.TheVariants.{Halt}

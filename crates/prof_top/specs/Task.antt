@@ -1,9 +1,9 @@
 -- What a command line asks to be done, over the texts that it names.
 use Rattle.std.specs.Prelude.{◌≡◌, ℕ, ◌≤◌, List, Option, Some, IfSome}
-use Rattle.guest_text.specs.Program.{IsProgram}
+use Rattle.guest_program.specs.Program.{IsProgram}
 use Rattle.guest_text.specs.ProgramText.{program_text}
 use Rattle.guest_text.specs.Straight.{IsStraight}
-use Rattle.guest_text.specs.declared.instr.Func.{Func}
+use Rattle.guest_program.specs.declared.instr.Func.{Func}
 use Rattle.item_text.specs.Items.{IsItemList, Spells}
 use Rattle.item_text.specs.declared.items.ItemList.{ItemList}
 use Rattle.prof_base.specs.declared.interval.TheConstants.{MAX_INTERVAL}

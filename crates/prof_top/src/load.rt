@@ -10,7 +10,8 @@ ghost use Rattle.prof_top.specs.Task.{IsProgramRead, IsListRead, IsLoaded, IsRea
 
 use crate::ending::Ending;
 use crate::words::{CommandLine, WordsRefused, command_line};
-use guest_text::{Program, ProgramCause, ProgramRefused, read_program};
+use guest_program::Program;
+use guest_text::{ProgramCause, ProgramRefused, read_straight_program};
 use item_text::{ItemList, read_items};
 use prof_base::Text;
 use prof_outer::{Depot, GetFault};
@@ -75,7 +76,7 @@ fn program_under<D: Depot>(alloc: Global, depot: &mut D, name: &Text) -> Result<
     ensures read_faults { D.read_faults depot.old ≤ D.read_faults depot.new }
 {
     let text = text_under(alloc, depot, name)?;
-    match read_program(alloc, &text) {
+    match read_straight_program(alloc, &text) {
         Ok(program) => Ok(program),
         Err(ProgramRefused::At { line, cause }) => Err(Unread::ProgramRefused { line, cause }),
         Err(ProgramRefused::Memory) => Err(Unread::Memory),

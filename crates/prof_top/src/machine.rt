@@ -1,13 +1,13 @@
 // The guest's machine, for programs that go straight on to a halt.
 ghost use Rattle.std.specs.Prelude.{◌≡◌, ◌<◌, ◌≤◌, ℕ, List, length, false, suc, IfOk};
 ghost use Rattle.guest_text.specs.Straight.{IsStraight, IsStraightBody};
-ghost use Rattle.guest_text.specs.declared.instr.Func.{Func};
+ghost use Rattle.guest_program.specs.declared.instr.Func.{Func};
 ghost use Rattle.guest_machine.specs.PlainMachine.{plain};
 ghost use Rattle.guest_machine.specs.PlainFrames.{func_entry, plain_frames};
 ghost use Rattle.prof_top.specs.Straight.{IsAfter};
 
 use code_event::{Entry, ResolvedFrame};
-use guest_text::{Func, Op, Program};
+use guest_program::{Func, Op, Program};
 use prof_base::{Memory, Sequence};
 use std::alloc::Global;
 

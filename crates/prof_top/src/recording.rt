@@ -3,7 +3,7 @@
 ghost use Rattle.std.specs.Prelude.{◌≡◌, ◌≤◌, ◌<◌, ◌++◌, ◌∷◌, [], ◌^◌, ℕ, List, length, suc, OnOk, IfOk};
 ghost use Rattle.std.specs.List.{Contains};
 ghost use Rattle.guest_text.specs.Straight.{IsStraight};
-ghost use Rattle.guest_text.specs.declared.instr.Func.{Func};
+ghost use Rattle.guest_program.specs.declared.instr.Func.{Func};
 ghost use Rattle.code_event.specs.Seen.{Seen, started};
 ghost use Rattle.isolate.specs.PlainFile.{tick_at};
 ghost use Rattle.session_book.specs.Book.{StandsFor, running};
@@ -16,7 +16,7 @@ use crate::machine::Machine;
 use code_event::{
     Finished, Frames, Mode, Options, PathPair, PathStep, ResolvedFrame, Tick, VmState,
 };
-use guest_text::Program;
+use guest_program::Program;
 use prof_base::{MAX_INTERVAL, Memory, Micros, Sequence, SessionId};
 use record_text::{DEFAULT_RING, EndCause, Schedule, ScheduleEntry, What};
 use session_book::{Book, StartRefused, StopRefused};

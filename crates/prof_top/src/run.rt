@@ -1,7 +1,7 @@
 // A run: the guest's recording, the delivery of its file, and the text that is printed.
 ghost use Rattle.std.specs.Prelude.{◌≡◌, ◌≤◌, ◌⊎◌, ◌<◌, ℕ, List, IfOk, length, string_bytes};
 ghost use Rattle.guest_text.specs.Straight.{IsStraight};
-ghost use Rattle.guest_text.specs.declared.instr.Func.{Func};
+ghost use Rattle.guest_program.specs.declared.instr.Func.{Func};
 ghost use Rattle.prof_base.specs.Causes.{Rose};
 ghost use Rattle.isolate.specs.PlainFile.{plain_files};
 ghost use Rattle.prof_top.specs.Ending.{status_of, IsWorkEnding};
@@ -16,7 +16,7 @@ use crate::printing::schedule_lines;
 use crate::printout::print_out;
 use crate::recording::{RecordedRun, SESSION, record};
 use cpuprofile::write_finished;
-use guest_text::Program;
+use guest_program::Program;
 use item_fold::deliver_file;
 use out_stream::OutputStream;
 use prof_base::{MAX_INTERVAL, Memory, Sequence};

@@ -1,5 +1,5 @@
 use Rattle.std.proofs.Common.{◌≡◌, ℕ, ◌<◌, length, slice_index}
-use Rattle.guest_text.specs.InlinedSize.{body_of}
+use Rattle.guest_program.specs.InlinedSize.{body_of}
 use Rattle.code_layout.proofs.sizes.lengths.Given as goal
 
 abbrev pub invariant-loop-func : goal.invariant-loop-func

@@ -1,6 +1,6 @@
 use Rattle.std.proofs.Common.{◌≡◌, ◌≤◌, ◌+◌, ◌*◌, length, take, slice_index}
 use Rattle.std.specs.Prelude.{sum_by}
-use Rattle.guest_text.specs.InlinedSize.{taken_in}
+use Rattle.guest_program.specs.InlinedSize.{taken_in}
 use Rattle.code_layout.specs.declared.sizes.TheConstants.{MAX_PART}
 use Rattle.code_layout.proofs.sizes.size_by.Given as goal
 

@@ -1,11 +1,23 @@
-use Rattle.std.proofs.Common.{◌∙◌, sym}
-use Rattle.guest_text.specs.Straight.{HasReading}
-use Rattle.guest_text.proofs.Readers.{unequal}
-use Rattle.guest_text.proofs.TextAgain.{claim_at, other_reads}
+use Rattle.std.proofs.Common.{◌∙◌, sym, subst}
+use Rattle.guest_text.specs.ProgramText.{Spells}
+use Rattle.guest_text.proofs.ProgramTexts.{spelled, keeps_rules, only_program, never_refused, refused_first}
 use Rattle.guest_text.proofs.reading.read_program.Goals as goal
 
-pub returns-else-eq-clause-refused : goal.returns-else-eq-clause-refused
-returns-else-eq-clause-refused c =
-    let differ = unequal _ _ (sym c.eq.ensures ∙ c.if-eq.false) in
-    claim_at c.difference.result (¬ HasReading c.args.text.now)
-    (other_reads _ _ _ c.in_ok-program.ensures.only c.in_ok-canonical.ensures (λ e. differ (e ∙ sym c.as_slice.ensures.value)))
+pub new-requires-clause-rules : goal.new-requires-clause-rules
+new-requires-clause-rules c = keeps_rules c.args.text.now c.in-Ok.funcs.items c.in-Ok.ensures.lines
+
+pub returns-in-Ok-clause-spelled : goal.returns-in-Ok-clause-spelled
+returns-in-Ok-clause-spelled c = subst (Spells c.args.text.now) (sym c.new.ensures) (spelled c.args.text.now c.in-Ok.funcs.items c.in-Ok.ensures.lines)
+
+pub returns-in-Ok-clause-only : goal.returns-in-Ok-clause-only
+returns-in-Ok-clause-only c funcs is s = c.new.ensures ∙ only_program c.args.text.now c.in-Ok.funcs.items funcs c.in-Ok.ensures.lines is s
+
+pub returns-in-Err-At-clause-never : goal.returns-in-Err-At-clause-never
+returns-in-Err-At-clause-never c funcs is s =
+    let e = rw c.in-Err-At.field-0-is at c.in-Err-At.ensures.lines in
+    never_refused c.args.text.now (c.in-Err-At.line, c.in-Err-At.cause) funcs e is s
+
+pub returns-in-Err-At-clause-refused : goal.returns-in-Err-At-clause-refused
+returns-in-Err-At-clause-refused c =
+    let e = rw c.in-Err-At.field-0-is at c.in-Err-At.ensures.lines in
+    (c.in-Err-At.cause, refused_first c.args.text.now (c.in-Err-At.line, c.in-Err-At.cause) e, c.program_cause.ensures)
