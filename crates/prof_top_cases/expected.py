@@ -65,32 +65,30 @@ QUOTED = r'"((?:[^"\\]|\\["\\])*)"'
 
 def read(text):
     """Returns the function's name, url, script, line and column, and its body as (line, is halt); or
-    the number of the first line at fault."""
+    the number of the first line at fault and the cause."""
     lines = text.split("\n")
     last = lines.pop()
+    if not text:
+        return 1, "nomain"
     head = re.fullmatch(rf"func main {QUOTED} {QUOTED} {NUMBER} {NUMBER} {NUMBER}", lines[0]) if lines else None
     if not head:
-        return 1
+        return 1, "word"
     name, url = (re.sub(r"\\(.)", r"\1", word) for word in head.groups()[:2])
     script, line, column = (int(word) for word in head.groups()[2:])
     if not (is_text(name) and is_text(url) and script < 2**32 and 1 <= line <= 10**6 and 1 <= column <= 10**6):
-        return 1
+        return 1, "word"
     body = []
     for number, line_text in enumerate(lines[1:], 2):
         if len(body) == 4096:
-            return number
+            return number, "limit"
         at = re.fullmatch(rf"{NUMBER} (?:(halt)|set r{NUMBER} {NUMBER})", line_text)
         if not at or not 1 <= int(at.group(1)) <= 10**6:
-            return number
+            return number, "word"
         if not at.group(2) and not (int(at.group(3)) <= 7 and int(at.group(4)) < 2**64):
-            return number
-        if len(body) == 4095 and not at.group(2):
-            return number
+            return number, "word"
         body.append((int(at.group(1)), bool(at.group(2))))
-    if last:
-        return len(lines) + 1
-    if not body or not body[-1][1]:
-        return len(lines) + 1
+    if last or not body[-1][1]:
+        return len(lines) + 1, "word"
     return (name, url, script, line, column), body
 
 
@@ -147,8 +145,8 @@ def run(name, text, every):
     """Returns the files of `run`, each with its session, the lines that are printed before those of the
     files, and the schedule."""
     reading = read(text)
-    if isinstance(reading, int):
-        raise Fault(2, f"program {name} line {reading}: word")
+    if isinstance(reading[0], int):
+        raise Fault(2, f"program {name} line {reading[0]}: {reading[1]}")
     file, steps, end = profile(*reading, every)
     entries = [f"  0 0 start 0 {every}"] + [f"  {s} {s} sampled" for s in steps] + [f"  {end} {end} end halt"]
     schedule = [f"schedule {every} 256 1000000 1048576 entries {len(entries)}"]

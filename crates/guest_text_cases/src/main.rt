@@ -1,10 +1,18 @@
-//! Prints what `read_program` answers for each text in the file `cases`, whose first lines say how
-//! the texts are written there.
+//! Prints what the readers of programs answer for each text in the file `cases`, whose first lines say how
+//! the texts are written there. Of a program that is read, the text that is written for it is printed too.
+//! `expected.py`, beside this crate's sources, works out the same lines from the rules alone.
 #![tactic(auto)]
 
-use guest_text::{Program, ProgramCause, ProgramRefused, read_program, write_program};
+use case_text::text_of;
+use guest_program::Program;
+use guest_text::{
+    ProgramCause, ProgramRefused, read_program, read_straight_program, write_program,
+};
 use std::alloc::Global;
-use std::{fs, io};
+use std::{fs, io, str};
+
+// The greatest number of bytes of a text that is printed.
+const SHOWN: usize = 3_000;
 
 fn cause_word(cause: ProgramCause) -> &'static str {
     match cause {
@@ -17,61 +25,68 @@ fn cause_word(cause: ProgramCause) -> &'static str {
     }
 }
 
-fn instruction_count(program: &Program) -> usize {
-    match program.funcs() {
-        [func, ..] => func.body.len(),
-        [] => 0,
-    }
-}
-
-fn spelling(alloc: Global, program: &Program, text: &[u8]) -> &'static str {
-    match write_program(alloc, program) {
-        Ok(written) if written.as_slice() == text => "written again",
-        Ok(_) => "written otherwise",
-        Err(_) => "out of memory",
-    }
-}
-
-fn answer(alloc: Global, text: &[u8]) -> Result<String, io::Error> {
-    match read_program(alloc, text) {
-        Ok(program) => Ok(format!(in alloc;
-            "functions {}, main {}, instructions {}, {}",
-            program.funcs().len(),
-            program.main().0,
-            instruction_count(&program),
-            spelling(alloc, &program, text)
-        )?),
-        Err(ProgramRefused::At { line, cause }) => Ok(format!(in alloc;
-            "line {} {}",
-            line,
-            cause_word(cause)
-        )?),
-        Err(ProgramRefused::Memory) => Ok(format!(in alloc; "out of memory")?),
-    }
-}
-
-// Adds the lines that `count` and a line, with a space between, mean.
-fn put_copies(text: &mut String, copies: &str) -> Result<(), io::Error> {
-    if let Some((count, line)) = copies.split_once(' ') {
-        for _ in 0..count.parse::<u32>().unwrap_or(0) {
-            text.push_str(line)?;
-            text.push('\n')?;
-        }
-    }
-    Ok(())
-}
-
-// Adds the text that a line of a case means.
-fn put_line(text: &mut String, line: &str) -> Result<(), io::Error> {
-    if let Some(copies) = line.strip_prefix('*') {
-        put_copies(text, copies)
-    } else if let Some(open) = line.strip_prefix('>') {
-        text.push_str(open)?;
-        Ok(())
+// Reads the text as the title of its case asks.
+fn read(alloc: Global, title: &str, text: &[u8]) -> Result<Program, ProgramRefused> {
+    if title.starts_with("straight:") {
+        read_straight_program(alloc, text)
     } else {
-        text.push_str(line)?;
-        text.push('\n')?;
-        Ok(())
+        read_program(alloc, text)
+    }
+}
+
+fn instruction_count(program: &Program) -> usize {
+    let mut count: usize = 0;
+    for func in program.funcs() {
+        count = count.saturating_add(func.body.len());
+    }
+    count
+}
+
+// What is written for the program that a written text is read as.
+fn second_reading(alloc: Global, written: &[u8]) -> &'static str {
+    match read_program(alloc, written) {
+        Ok(program) => match write_program(alloc, &program) {
+            Ok(again) if again.as_slice() == written => "the same",
+            Ok(_) => "another text",
+            Err(_) => "out of memory",
+        },
+        Err(_) => "no program",
+    }
+}
+
+fn print_written(rt: &impl Print, written: &[u8]) -> Result<(), io::Error> {
+    if written.len() > SHOWN {
+        return Ok(());
+    }
+    match str::from_utf8(written) {
+        Ok(text) => print!(rt; "{text}"),
+        Err(_) => println!(rt; "no text"),
+    }
+}
+
+fn print_program(rt: &impl Print, alloc: Global, program: &Program) -> Result<(), io::Error> {
+    let Ok(text) = write_program(alloc, program) else {
+        return println!(rt; "out of memory");
+    };
+    let written = text.as_slice();
+    println!(rt;
+        "functions {}, main {}, instructions {}, bytes {}, read again: {}",
+        program.funcs().len(),
+        program.main().0,
+        instruction_count(program),
+        written.len(),
+        second_reading(alloc, written)
+    )?;
+    print_written(rt, written)
+}
+
+fn print_answer(rt: &impl Print, alloc: Global, title: &str, text: &[u8]) -> Result<(), io::Error> {
+    match read(alloc, title, text) {
+        Ok(program) => print_program(rt, alloc, &program),
+        Err(ProgramRefused::At { line, cause }) => {
+            println!(rt; "line {} {}", line, cause_word(cause))
+        }
+        Err(ProgramRefused::Memory) => println!(rt; "out of memory"),
     }
 }
 
@@ -79,13 +94,11 @@ fn main(rt: HostRuntime) -> Result<(), io::Error> {
     let alloc = rt.alloc();
     let all = fs::read_to_string(&rt, "cases")?;
     let cases = all.strip_suffix('\n').unwrap_or(&all);
-    for case in cases.split("\n%").skip(1) {
-        let mut text = String::new(alloc);
-        for line in case.split('\n').skip(1) {
-            put_line(&mut text, line)?;
-        }
-        let answered = answer(alloc, text.as_bytes())?;
-        println!(rt; "{answered}")?;
+    for case in cases.split("\n% ").skip(1) {
+        let title = case.split('\n').next().unwrap_or("");
+        println!(rt; "% {title}")?;
+        let text = text_of(alloc, case)?;
+        print_answer(&rt, alloc, title, text.as_bytes())?;
     }
     Ok(())
 }
