@@ -6,15 +6,11 @@
 #[cfg(test)]
 mod base;
 #[cfg(test)]
-mod code_layouts;
-#[cfg(test)]
 mod code_maps;
 #[cfg(test)]
 mod events;
 #[cfg(test)]
 mod profiles;
-#[cfg(test)]
-mod programs;
 #[cfg(test)]
 mod schedules;
 #[cfg(test)]
