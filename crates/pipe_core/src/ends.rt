@@ -39,7 +39,7 @@ pub trait Tail<T> {
 
     /// Puts an item in at the spare place, which is then used up. It takes no memory.
     fn put_last(&mut self, item: T)
-        requires { 0 < spare self.old }
+        requires has_spare { 0 < spare self.old }
         ensures home { home self.new ≡ home self.old }
         ensures passed { passed self.new ≡ appended (passed self.old) item }
         ensures holds { holds self.new ≡ appended (holds self.old) item }

@@ -68,7 +68,7 @@ impl<T> Tail<T> for PlainQueue<T> {
     }
 
     fn put_last(&mut self, item: T)
-        requires spare { 0 < self.old.spare }
+        requires has_spare { 0 < self.old.spare }
         ensures put { self.new ≡ record self.old { items = self.old.items ++ item ∷ []; spare = self.old.spare - 1 } }
     {
         self.spare -= 1;
