@@ -1,0 +1,9 @@
+pub mod Codes
+pub mod Finding
+pub mod Keeping
+pub mod Moving
+pub mod PlainPlaces
+pub mod RangesFound
+pub mod Searching
+pub mod Sliding
+pub mod Stored
