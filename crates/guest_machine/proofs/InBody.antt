@@ -1,5 +1,5 @@
 -- That each frame of a program is at an instruction of its function.
-use Rattle.std.proofs.Common.{◌≡◌, ℕ, zero, suc, ◌+◌, ◌<◌, List, [], ◌∷◌, length, refl, subst, arith}
+use Rattle.std.proofs.Common.{◌≡◌, ℕ, zero, suc, ◌+◌, ◌<◌, ◌≤◌, List, [], ◌∷◌, length, refl, subst, arith}
 use Rattle.std.proofs.lemmas.Bool.{cond_both}
 use Rattle.std.proofs.lemmas.Slice.Eq.{bytes_eq-Decides}
 use Rattle.std.specs.Prelude.{true, Some, is_some, bytes_eq, codes}
@@ -30,6 +30,10 @@ at_each P Q (func ∷ funcs) (suc number) each all within = let less : number < 
 body_not_empty : (funcs : List Func) (number : ℕ) → IsProgram funcs → number < length funcs → 0 < length (body_of funcs number)
 body_not_empty funcs number program within =
     at_each (IsFunc (length funcs)) (λ body. 0 < length body) funcs number (λ func is. is.not_empty) program.each within
+
+pub body_short : (funcs : List Func) (number : ℕ) → IsProgram funcs → number < length funcs → length (body_of funcs number) ≤ 4096
+body_short funcs number program within =
+    at_each (IsFunc (length funcs)) (λ body. length body ≤ 4096) funcs number (λ func is. is.short) program.each within
 
 body_fits : (funcs : List Func) (number : ℕ) → IsProgram funcs → number < length funcs
     → AllByRecursion (IsInstr (length funcs) (length (body_of funcs number))) (body_of funcs number)

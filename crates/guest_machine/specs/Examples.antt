@@ -1,10 +1,14 @@
 -- Small programs that were run by hand.
-use Rattle.std.specs.Prelude.{ℕ, List, [], ◌∷◌, Bool, true, false, map, codes}
+use Rattle.std.specs.Prelude.{ℕ, List, [], ◌∷◌, Bool, true, false, map, codes, Option, Some, if◌then◌else◌}
 use Rattle.prof_base.specs.declared.ids.FuncId.{FuncId}
 use Rattle.guest_program.specs.declared.instr.Op.{Op}
 use Rattle.guest_program.specs.declared.instr.Op.TheVariants as op
 use Rattle.guest_program.specs.declared.instr.Func.{Func}
 use Rattle.guest_machine.specs.PlainMachine.{State, Frame, frames}
+use Rattle.code_objects.specs.declared.name.CodeKind.TheVariants.{Plain, Optimised}
+use Rattle.code_objects.specs.declared.name.CodeName.{CodeName}
+use Rattle.guest_machine.specs.Stack.{Position, is_optimised}
+use Rattle.guest_machine.specs.declared.stack.CodeFrame.{CodeFrame}
 
 -- a function with these operations, all in line 1
 abbrev pub function : List ℕ → Bool → List Op → Func
@@ -28,10 +32,7 @@ abbrev pub main_and : List Op → Bool → List Op → List Func
 main_and ops inline others = function (codes "main") false ops ∷ function (codes "f") inline others ∷ []
 
 -- where the machine is: each frame's function and index, oldest first
-abbrev pub Place : Type 0
-Place = ℕ × ℕ
-
-abbrev pub places : State → List Place
+abbrev pub places : State → List Position
 places state = map (λ frame. (frame.func, frame.index)) (frames state)
 
 abbrev pub top_registers : List Frame → List ℕ
@@ -81,3 +82,16 @@ deoptimising_last = main_and (op.Opt (func 1) ∷ op.Deopt (func 1) (codes "x") 
 -- a function is optimised, and then disabled
 abbrev pub disabling : List Func
 disabling = main_and (op.Opt (func 1) ∷ op.NoOpt (func 1) (codes "x") ∷ op.Halt ∷ []) false (op.Ret ∷ [])
+
+-- the plain code of `main`, at its call of `a`
+abbrev pub main_at_call : CodeFrame
+main_at_call = record { code = record { func = func 0; kind = Plain }; slot = 1 }
+
+-- The optimised code of `a`, in which `b` is inlined, and in that `c`, at the first slot of `c`. The program is `chained`, of
+-- the examples of layouts.
+abbrev pub three_inlined : CodeFrame
+three_inlined = record { code = record { func = func 1; kind = Optimised }; slot = 2 }
+
+-- plain code starts at 8192, and optimised code at 4096
+abbrev pub starts_by_kind : CodeName → Option ℕ
+starts_by_kind code = Some (if is_optimised code.kind then 4096 else 8192)

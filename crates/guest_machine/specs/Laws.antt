@@ -1,10 +1,14 @@
 -- What holds of the plain machine for every program and every number of steps.
-use Rattle.std.specs.Prelude.{◌≡◌, ◌↔◌, ℕ, suc, ◌+◌, ◌^◌, ◌<◌, ◌≤◌, List, length, true, false, is_some}
+use Rattle.std.specs.Prelude.{◌≡◌, ◌↔◌, ℕ, suc, ◌+◌, ◌^◌, ◌<◌, ◌≤◌, List, length, true, false, Some, is_some, slice_set}
 use Rattle.std.specs.List.{AllByRecursion}
 use Rattle.guest_program.specs.InlinedSize.{body_of}
 use Rattle.guest_program.specs.Program.{IsProgram}
 use Rattle.guest_program.specs.declared.instr.Func.{Func}
-use Rattle.guest_machine.specs.PlainMachine.{Frame, plain, deopts, code_at, instr_of}
+use Rattle.code_event.specs.DeoptReasons.{with_reason}
+use Rattle.code_event.specs.declared.entry.Entry.{Entry}
+use Rattle.code_layout.specs.Layouts.{entry_at}
+use Rattle.guest_machine.specs.PlainMachine.{Frame, Code, plain, deopts, code_at, instr_of}
+use Rattle.guest_machine.specs.PlainFrames.{reason_in}
 
 -- where the machine has ended after a number of steps, it is the same after any further steps
 abbrev pub EndsAreFinal : Type 0
@@ -55,3 +59,10 @@ TakesCodeAway funcs steps = (func : ℕ) × ((code_at (plain funcs steps) func).
 -- a step makes a deoptimisation exactly where it takes some function's optimised code away
 abbrev pub DeoptsTakeCodeAway : Type 0
 DeoptsTakeCodeAway = (funcs : List Func) (steps : ℕ) → (deopts funcs steps ≡ true) ↔ TakesCodeAway funcs steps
+
+-- where a function of a program gets a reason, its own entry has that reason, and each other entry the one that it had
+abbrev pub ReasonsFollow : Type 0
+ReasonsFollow =
+    (funcs : List Func) (codes : List Code) (func : ℕ) (code : Code) (reason : List ℕ) (entry : Entry)
+    → IsProgram funcs → length codes ≡ length funcs → func < length funcs → code.reason ≡ Some reason
+    → reason_in funcs (slice_set codes func code) entry ≡ with_reason (reason_in funcs codes) reason (entry_at funcs func) entry

@@ -8,16 +8,13 @@ use Rattle.code_event.specs.DeoptReasons.{DeoptReasons}
 use Rattle.code_event.specs.Symbolizer.{frames_over}
 use Rattle.code_event.specs.declared.entry.Entry.{Entry}
 use Rattle.code_event.specs.declared.seen.ResolvedFrame.{ResolvedFrame}
+use Rattle.code_layout.specs.Layouts.{entry_of}
 use Rattle.guest_machine.specs.PlainMachine.{State, Frame, Code, frames, is_js}
-
--- what a function is named by in a profile
-abbrev pub func_entry : Func → Entry
-func_entry func = record { name = func.name; url = func.url; script = func.script; line = func.line; column = func.column }
 
 -- the function of a frame, and the line at its index
 abbrev pub resolved_frame : List Func → Frame → List ResolvedFrame
 resolved_frame funcs frame =
-    option_map_or (λ func. option_map_or (λ instr. record { entry = func_entry func; line = instr.line } ∷ []) (slice_get func.body frame.index) [])
+    option_map_or (λ func. option_map_or (λ instr. record { entry = entry_of func; line = instr.line } ∷ []) (slice_get func.body frame.index) [])
     (slice_get funcs frame.func) []
 
 -- the functions on the stack of a machine, oldest first; while its engine is not running guest code, the frame that names what it does
@@ -26,7 +23,7 @@ plain_frames funcs state = if is_js state.state then flat_map (resolved_frame fu
 
 -- the deopt reason of the function with this entry
 abbrev pub reason_in : List Func → List Code → Entry → Option (List ℕ)
-reason_in (func ∷ funcs) (code ∷ codes) entry = if same_entry (func_entry func) entry then code.reason else reason_in funcs codes entry
+reason_in (func ∷ funcs) (code ∷ codes) entry = if same_entry (entry_of func) entry then code.reason else reason_in funcs codes entry
 reason_in funcs codes entry = None
 
 -- the deopt reasons of a machine

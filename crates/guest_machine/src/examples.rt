@@ -1,9 +1,11 @@
-//! The definition of the plain machine, computed on small programs. Each function does nothing: its
-//! contract is the example.
+//! The definitions of the plain machine and of the physical stack, computed on small programs. Each
+//! function does nothing: its contract is the example.
 ghost use Rattle.std.specs.Prelude.{◌≡◌, [], ◌∷◌, Some, None, true, false, codes, length};
 ghost use Rattle.guest_machine.specs.PlainMachine.{plain, deopts, code_at};
 ghost use Rattle.guest_program.specs.InlinedSize.{inlined_size};
-ghost use Rattle.guest_machine.specs.Examples.{places, waiting, calling, deep, running_off, growing, deoptimising, deoptimising_last, disabling, registers_of};
+ghost use Rattle.code_layout.specs.Examples.{chained};
+ghost use Rattle.guest_machine.specs.Stack.{stack_positions, addresses, plain_code_frame, all_given_up};
+ghost use Rattle.guest_machine.specs.Examples.{main_at_call, three_inlined, starts_by_kind, places, waiting, calling, deep, running_off, growing, deoptimising, deoptimising_last, disabling, registers_of};
 ghost use Rattle.guest_machine.specs.declared.ended.Ended.TheVariants as end;
 ghost use Rattle.code_event.specs.declared.tick.VmState.TheVariants as state;
 
@@ -71,4 +73,14 @@ pub fn what_is_disabled_keeps_its_code()
     ensures optimised { (code_at (plain disabling 1) 1).optimised ≡ true }
     ensures none { deopts disabling 1 ≡ false }
     ensures code { code_at (plain disabling 2) 1 ≡ record { optimised = true; disabled = true; reason = Some (codes "x") } }
+{}
+
+/// A frame in the optimised code of `a`, at the first slot of `c`, stands for `c`, `b` and `a`. Its
+/// address is that of its slot; that of `main`, its caller, follows the slot of the call. Where that
+/// code is given up, the frame becomes three.
+#[tactic(auto, unfolding(code_objects::specs::CodeObjects::layout_of))]
+pub fn one_frame_can_stand_for_three_functions()
+    ensures positions { stack_positions chained (three_inlined ∷ main_at_call ∷ []) ≡ (3, 0) ∷ (2, 0) ∷ (1, 0) ∷ (0, 1) ∷ [] }
+    ensures addresses { addresses starts_by_kind (three_inlined ∷ main_at_call ∷ []) ≡ 4104 ∷ 8200 ∷ [] }
+    ensures given_up { all_given_up chained 1 (three_inlined ∷ main_at_call ∷ []) ≡ plain_code_frame (3, 0) ∷ plain_code_frame (2, 0) ∷ plain_code_frame (1, 0) ∷ main_at_call ∷ [] }
 {}

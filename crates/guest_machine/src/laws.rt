@@ -1,5 +1,5 @@
 //! Laws of the plain machine. Each function does nothing: its contract is the law.
-ghost use Rattle.guest_machine.specs.Laws.{CodeIsOfFunctions, DeoptsTakeCodeAway, EndsAreFinal, FramesAreInBodies, FramesHaveInstructions, FramesHaveRegisters, NoneIsGivenUpAtTheEnd, StacksAreNotEmpty, StacksAreSmall};
+ghost use Rattle.guest_machine.specs.Laws.{CodeIsOfFunctions, DeoptsTakeCodeAway, EndsAreFinal, FramesAreInBodies, FramesHaveInstructions, FramesHaveRegisters, NoneIsGivenUpAtTheEnd, ReasonsFollow, StacksAreNotEmpty, StacksAreSmall};
 
 /// Once the machine has ended, no step changes it, and none makes a deoptimisation.
 pub fn nothing_follows_the_end()
@@ -34,4 +34,10 @@ pub fn registers_are_below_two_to_the_64()
 /// after it.
 pub fn deoptimisations_take_code_away()
     ensures { DeoptsTakeCodeAway }
+{}
+
+/// A function that gets a deopt reason changes the reason of its own entry alone, since no two
+/// functions of a program have the same entry.
+pub fn each_reason_is_of_one_function()
+    ensures { ReasonsFollow }
 {}

@@ -16,9 +16,10 @@ use Rattle.code_event.specs.RecordingLaws.{closes}
 use Rattle.code_event.specs.Seen.{Seen, started, stopped, finished, ticked}
 use Rattle.code_event.specs.declared.entry.Entry.{Entry}
 use Rattle.code_event.specs.declared.event.Options.{Options}
+use Rattle.code_layout.specs.Layouts.{entry_of}
 use Rattle.cpuprofile.specs.Given.{HasExactTime}
 use Rattle.guest_machine.specs.PlainMachine.{plain, deopts, plain_code}
-use Rattle.guest_machine.specs.PlainFrames.{func_entry, reason_in, reasons_of}
+use Rattle.guest_machine.specs.PlainFrames.{reason_in, reasons_of}
 use Rattle.isolate.specs.PlainFile.{tick_at, given_up, given_up_for, seen_of, seen_behind}
 use Rattle.prof_base.specs.Interval.{rounded_of}
 use Rattle.record_text.specs.Schedule.{Course, Running, none_yet, course_after, course_on}
@@ -96,7 +97,7 @@ source_alone every number port some = ap (gcd 0) (alone_rounded every some) ∙ 
 no_reason : (funcs : List Func) (entry : Entry) → reason_in funcs (map plain_code funcs) entry ≡ None
 no_reason [] entry = refl
 no_reason (func ∷ funcs) entry =
-    cond_both (same_entry (func_entry func) entry) None (reason_in funcs (map plain_code funcs) entry) (λ found. found ≡ None) (λ is. refl) (λ not. no_reason funcs entry)
+    cond_both (same_entry (entry_of func) entry) None (reason_in funcs (map plain_code funcs) entry) (λ found. found ≡ None) (λ is. refl) (λ not. no_reason funcs entry)
 
 -- no function has a reason
 pub no_reasons_given : (funcs : List Func) (index : ℕ) (registers : List ℕ) (halted : Bool) → reasons_of funcs (straight_state funcs index registers halted) ≡ no_reasons

@@ -3,7 +3,8 @@ ghost use Rattle.std.specs.Prelude.{◌≡◌, ◌<◌, ◌≤◌, ℕ, List, le
 ghost use Rattle.guest_text.specs.Straight.{IsStraight, IsStraightBody};
 ghost use Rattle.guest_program.specs.declared.instr.Func.{Func};
 ghost use Rattle.guest_machine.specs.PlainMachine.{plain};
-ghost use Rattle.guest_machine.specs.PlainFrames.{func_entry, plain_frames};
+ghost use Rattle.code_layout.specs.Layouts.{entry_of};
+ghost use Rattle.guest_machine.specs.PlainFrames.{plain_frames};
 ghost use Rattle.prof_top.specs.Straight.{IsAfter};
 
 use code_event::{Entry, ResolvedFrame};
@@ -22,8 +23,8 @@ pub(crate) struct Machine<'a> {
 }
 
 // Returns the entry that names a function in a profile.
-fn func_entry(func: &Func) -> Result<Entry, Memory>
-    ensures { IfOk result (λ entry. entry ≡ func_entry func.now) }
+fn entry_of(func: &Func) -> Result<Entry, Memory>
+    ensures { IfOk result (λ entry. entry ≡ entry_of func.now) }
 {
     Ok(Entry {
         name: func.name.copy()?,
@@ -68,7 +69,7 @@ impl<'a> Machine<'a> {
     {
         let mut frames = Sequence::new(alloc);
         frames.push(ResolvedFrame {
-            entry: func_entry(self.main)?,
+            entry: entry_of(self.main)?,
             line: self.main.body.as_slice()[self.index].line,
         })?;
         Ok(frames)

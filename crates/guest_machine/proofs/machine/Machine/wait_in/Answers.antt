@@ -1,0 +1,9 @@
+use Rattle.std.proofs.Common.{refl}
+use Rattle.guest_machine.proofs.Advancing.{has_waited, has_not_waited}
+use Rattle.guest_machine.proofs.machine.Machine.wait_in.Goals as goal
+
+pub returns-then-rise-clause-does : goal.returns-then-rise-clause-does
+returns-then-rise-clause-does c = has_waited c.args.self.now c.rise.new.self _ c.args.state c.args.steps c.if-rise.ensures.rises refl
+
+pub returns-else-rise-clause-does : goal.returns-else-rise-clause-does
+returns-else-rise-clause-does c = has_not_waited c.args.self.now c.rise.new.self c.args.state c.args.steps c.if-rise.ensures.rises
