@@ -44,7 +44,7 @@ stops_end running time why [] = refl
 stops_end running time why (n ∷ numbers) = ap (λ l. n ∷ l) (stops_end (without n running) time why numbers)
 
 -- the recording of a session that nothing has ended yet
-recording_goes_on : (number : ℕ) (begun : Option Begun) (seen more : List Seen) → Unended number seen → recording_behind number begun (seen ++ more) ≡ recording_behind number (begun_behind number begun seen) more
+pub recording_goes_on : (number : ℕ) (begun : Option Begun) (seen more : List Seen) → Unended number seen → recording_behind number begun (seen ++ more) ≡ recording_behind number (begun_behind number begun seen) more
 recording_goes_on number begun [] more unended = refl
 recording_goes_on number begun (started other options start ∷ seen) more unended =
     let again : Option Begun = Some (fresh options start) in
@@ -59,7 +59,7 @@ recording_goes_on number begun (finished end has_files given ∷ seen) more unen
 recording_goes_on number begun (ticked tick ∷ seen) more unended = recording_goes_on number (option_map (with_tick number tick) begun) seen more unended.1
 
 -- a session among those that are stopped
-stopped_among : (number : ℕ) (begun : Option Begun) (time : ℕ) (why : DeoptReasons) (numbers : List ℕ) → Has numbers number
+pub stopped_among : (number : ℕ) (begun : Option Begun) (time : ℕ) (why : DeoptReasons) (numbers : List ℕ) → Has numbers number
     → recording_behind number begun (map (λ n. stopped (session n) time why) numbers) ≡ ended begun time why
 stopped_among number begun time why [] h = absurd h
 stopped_among number begun time why (n ∷ numbers) h =

@@ -48,7 +48,7 @@ IsEnding old parts time now parts' =
     (base : ℕ) (items : List Item) (e : EventRecord) (before : Option Parts) → IsLegalItems (items ++ item.Event e ∷ []) → e.event ≡ Finish time true
     → HasFolded base items (Ok tt) old before parts → HasEnded base items time now before parts'
 
-open_stops : (items : List Item) (time : ℕ) (numbers : List ℕ) → AllByRecursion IsOpenItem items → AllByRecursion IsOpenItem (items ++ stops_at time numbers)
+pub open_stops : (items : List Item) (time : ℕ) (numbers : List ℕ) → AllByRecursion IsOpenItem items → AllByRecursion IsOpenItem (items ++ stops_at time numbers)
 open_stops [] time [] unfinished = tt
 open_stops [] time (n ∷ numbers) unfinished = (tt, open_stops [] time numbers unfinished)
 open_stops (first ∷ items) time numbers unfinished = (unfinished.0, open_stops items time numbers unfinished.1)
@@ -61,7 +61,7 @@ ending_begins old parts time base items e before legal is h = record {
 }
 
 -- what follows items adds files
-files_more : (base : ℕ) (items more : List Item) → AllByRecursion IsOpenItem items → (added : List SessionFile) × (item_files base (items ++ more) ≡ item_files base items ++ added)
+pub files_more : (base : ℕ) (items more : List Item) → AllByRecursion IsOpenItem items → (added : List SessionFile) × (item_files base (items ++ more) ≡ item_files base items ++ added)
 files_more base items more unfinished =
     let seen : List Seen = seen_items items in
     let later : List Seen = _ in
@@ -78,7 +78,7 @@ runs_after_stops running time why (n ∷ numbers) number h =
     (old.0, (other_test number n old.1, rest.1))
 
 -- so it has not ended in the items and the stops
-has_not_ended : (items : List Item) (e : EventRecord) (time : ℕ) (done : List ℕ) (number : ℕ) → IsLegalItems (items ++ item.Event e ∷ []) → Has (running_after (items ++ stops_at time done)) number
+pub has_not_ended : (items : List Item) (e : EventRecord) (time : ℕ) (done : List ℕ) (number : ℕ) → IsLegalItems (items ++ item.Event e ∷ []) → Has (running_after (items ++ stops_at time done)) number
     → HasNotEnded number (items ++ stops_at time done)
 has_not_ended items e time done number legal h =
     let seen : List Seen = seen_items items in
@@ -89,7 +89,7 @@ has_not_ended items e time done number legal h =
     let now = runs_after_stops (running_after items) time why done number (subst (λ (l : List ℕ). Has l number) (ap (running_on []) whole ∙ running_on-more [] seen stops) h) in
     subst (Unended number) (sym whole) (unended_more number seen stops (running_have_not_ended items [] (item.Event e) number legal (contains_from_has (running_after items) number now.0)) now.1)
 
-stops_more : (time : ℕ) (done : List ℕ) (number : ℕ) → stops_at time (done ++ number ∷ []) ≡ stops_at time done ++ stop_at time number ∷ []
+pub stops_more : (time : ℕ) (done : List ℕ) (number : ℕ) → stops_at time (done ++ number ∷ []) ≡ stops_at time done ++ stop_at time number ∷ []
 stops_more time [] number = refl
 stops_more time (n ∷ done) number = ap (λ l. stop_at time n ∷ l) (stops_more time done number)
 
@@ -123,7 +123,7 @@ not_after n [] after h = h
 not_after n (m ∷ ns) after (inl same) = never_less n (subst (λ k. nat_cmp n k ≡ Less) same after.0)
 not_after n (m ∷ ns) after (inr old) = not_after n ns after.1 old
 
-rises_out : (number : ℕ) (rest : List ℕ) → Rises nat_cmp (number ∷ rest) → ¬ Has rest number
+pub rises_out : (number : ℕ) (rest : List ℕ) → Rises nat_cmp (number ∷ rest) → ¬ Has rest number
 rises_out number rest rises h = not_after number rest rises.0 h
 
 pub ending_goes_on : (old now new : FoldingParts) (parts at parts' : Option Parts) (time : ℕ) (s : SessionId) (rest : List ℕ)
@@ -140,7 +140,7 @@ ending_goes_on old now new parts at parts' time s rest runs rises left folds end
     }
 
 -- the files after a finish are those after the stops of all that ran
-finish_files : (base : ℕ) (items : List Item) (e : EventRecord) (time : ℕ) (all : List ℕ) → IsLegalItems (items ++ item.Event e ∷ []) → e.event ≡ Finish time true → running_after items ≡ all
+pub finish_files : (base : ℕ) (items : List Item) (e : EventRecord) (time : ℕ) (all : List ℕ) → IsLegalItems (items ++ item.Event e ∷ []) → e.event ≡ Finish time true → running_after items ≡ all
     → item_files base (items ++ item.Event e ∷ []) ≡ item_files base (items ++ stops_at time all)
 finish_files base items e time all legal is same = finishes_are_stops base items e time legal is ∙ ap (λ (ns : List ℕ). item_files base (items ++ stops_at time ns)) same
 

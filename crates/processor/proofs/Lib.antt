@@ -1,0 +1,11 @@
+pub mod Delivered
+pub mod DeliveredFiles
+pub mod FiledItems
+pub mod OnCourse
+pub mod PlainTaking
+pub mod PlainTurns
+pub mod RunningSessions
+pub mod Stopped
+pub mod Taking
+pub mod Telling
+pub mod Turns

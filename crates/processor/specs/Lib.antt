@@ -1,0 +1,9 @@
+pub mod Course
+pub mod CourseLaws
+pub mod Filing
+pub mod Lending
+pub mod Plain
+pub mod Processor
+pub mod Running
+pub mod Taking
+pub mod TakingLaws

@@ -1,0 +1,90 @@
+// Taking from the queues of one thread.
+ghost use Rattle.std.specs.Prelude.{◌≡◌, ℕ, List, [], ◌∷◌, ◌++◌, Option, Some};
+ghost use Rattle.code_event.specs.declared.tick.Item.{Item};
+ghost use Rattle.pipe_core.specs.Observed.{IfThere};
+ghost use Rattle.out_stream.specs.Parts.{Parts};
+ghost use Rattle.processor.specs.Course.{StandsFor};
+ghost use Rattle.processor.specs.CourseLaws.{AreDelivered};
+ghost use Rattle.processor.specs.Plain.{GoesOn};
+ghost use Rattle.code_event.specs.ItemList.{IsLegalItems};
+ghost use Rattle.processor.specs.Taking.{HasTaken};
+ghost use Rattle.processor.specs.TakingLaws.{HoldRest};
+
+use crate::ports::FilePorts;
+use crate::processor::Processor;
+use crate::taker::Taker;
+use crate::turn::ProcTurn;
+use code_event::{EventRecord, Item, Tick};
+use out_stream::OutputStream;
+use pipe_core::{PlainQueue, PlainRing};
+
+/// Takes the next item from three queues of one thread. Where they hold what follows in a stamped
+/// list, it takes the first item of that, and nothing only where nothing follows.
+pub fn take_plain(
+    taker: &mut Taker<PlainQueue<EventRecord>, PlainQueue<Tick>, PlainRing>,
+) -> Option<Item>
+    ensures nothing { IfThere result ((items rest : List Item) → HasTaken taker.old.applied taker.old.ticked items
+        → HoldRest items rest taker.old.events.items taker.old.vm_ticks.items taker.old.ring.items → rest ≡ []) (λ _. Unit {0}) }
+    ensures first { IfThere result (Unit {0}) (λ x. (items rest : List Item) → HasTaken taker.old.applied taker.old.ticked items
+        → HoldRest items rest taker.old.events.items taker.old.vm_ticks.items taker.old.ring.items
+        → (rest' : List Item) × (rest ≡ x ∷ rest') × HoldRest (items ++ x ∷ []) rest' taker.new.events.items taker.new.vm_ticks.items taker.new.ring.items) }
+    ensures taken { IfThere result (Unit {0}) (λ x. (items : List Item) → HasTaken taker.old.applied taker.old.ticked items
+        → HasTaken taker.new.applied taker.new.ticked (items ++ x ∷ [])) }
+{
+    taker.take()
+}
+
+/// A turn of a processor over three queues of one thread. Where they hold what follows the items taken
+/// in a stamped list, they hold afterwards what follows then. Nothing is answered only where nothing
+/// follows: all is taken. Where Over is answered and the list is legal, all its files are delivered, as
+/// far as the delivery and the memory say.
+pub fn turn_plain<S: OutputStream, X: FilePorts>(
+    processor: &mut Processor<PlainQueue<EventRecord>, PlainQueue<Tick>, PlainRing, S>,
+    ports: &mut X,
+) -> ProcTurn
+    ensures nothing { result ≡ ProcTurn.Nothing → (items rest : List Item) → HasTaken processor.old.applied processor.old.ticked items
+        → HoldRest items rest processor.old.events.items processor.old.vm_ticks.items processor.old.ring.items → rest ≡ [] }
+    ensures goes_on { (base : ℕ) (items rest : List Item) (before : Option Parts)
+        → StandsFor base items processor.old.applied processor.old.ticked processor.old.course before (S.parts processor.old.stream)
+        → HoldRest items rest processor.old.events.items processor.old.vm_ticks.items processor.old.ring.items
+        → GoesOn base (items ++ rest) processor.new.applied processor.new.ticked processor.new.course before (S.parts processor.new.stream) processor.new.events.items processor.new.vm_ticks.items processor.new.ring.items }
+    ensures at_nothing { result ≡ ProcTurn.Nothing → (base : ℕ) (items rest : List Item) (before : Option Parts)
+        → StandsFor base items processor.old.applied processor.old.ticked processor.old.course before (S.parts processor.old.stream)
+        → HoldRest items rest processor.old.events.items processor.old.vm_ticks.items processor.old.ring.items
+        → StandsFor base (items ++ rest) processor.new.applied processor.new.ticked processor.new.course before (S.parts processor.new.stream) }
+    ensures at_over { result ≡ ProcTurn.Over → (base : ℕ) (items rest : List Item) (before : Option Parts)
+        → StandsFor base items processor.old.applied processor.old.ticked processor.old.course before (S.parts processor.old.stream)
+        → HoldRest items rest processor.old.events.items processor.old.vm_ticks.items processor.old.ring.items → IsLegalItems (items ++ rest)
+        → AreDelivered base (items ++ rest) [] processor.new.course.filing before (S.parts processor.new.stream) }
+{
+    processor.turn(ports)
+}
+
+/// Turns a processor over three queues of one thread until it answers Nothing or Over, and returns that
+/// answer; None where this many turns are too few.
+pub fn turns_plain<S: OutputStream, X: FilePorts>(
+    processor: &mut Processor<PlainQueue<EventRecord>, PlainQueue<Tick>, PlainRing, S>,
+    ports: &mut X,
+    most: u32,
+) -> Option<ProcTurn>
+    ensures goes_on { (base : ℕ) (items rest : List Item) (before : Option Parts)
+        → StandsFor base items processor.old.applied processor.old.ticked processor.old.course before (S.parts processor.old.stream)
+        → HoldRest items rest processor.old.events.items processor.old.vm_ticks.items processor.old.ring.items
+        → GoesOn base (items ++ rest) processor.new.applied processor.new.ticked processor.new.course before (S.parts processor.new.stream) processor.new.events.items processor.new.vm_ticks.items processor.new.ring.items }
+    ensures at_nothing { result ≡ Some ProcTurn.Nothing → (base : ℕ) (items rest : List Item) (before : Option Parts)
+        → StandsFor base items processor.old.applied processor.old.ticked processor.old.course before (S.parts processor.old.stream)
+        → HoldRest items rest processor.old.events.items processor.old.vm_ticks.items processor.old.ring.items
+        → StandsFor base (items ++ rest) processor.new.applied processor.new.ticked processor.new.course before (S.parts processor.new.stream) }
+    ensures at_over { result ≡ Some ProcTurn.Over → (base : ℕ) (items rest : List Item) (before : Option Parts)
+        → StandsFor base items processor.old.applied processor.old.ticked processor.old.course before (S.parts processor.old.stream)
+        → HoldRest items rest processor.old.events.items processor.old.vm_ticks.items processor.old.ring.items → IsLegalItems (items ++ rest)
+        → AreDelivered base (items ++ rest) [] processor.new.course.filing before (S.parts processor.new.stream) }
+{
+    for _ in 0..most {
+        let answer = turn_plain(processor, ports);
+        if answer == ProcTurn::Nothing || answer == ProcTurn::Over {
+            return Some(answer);
+        }
+    }
+    None
+}
