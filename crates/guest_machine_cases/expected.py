@@ -1,5 +1,5 @@
 #!/usr/bin/env python3
-"""Writes the file `stdout` of this crate: what docs/FORMATS.md says that the programs in data/cases do.
+"""Writes the file `stdout` of this crate: what docs/FORMATS.md and docs/DEFINITIONS.md say that the programs in data/cases do.
 
 It shares nothing with the product. Run it in the crate's folder.
 """
