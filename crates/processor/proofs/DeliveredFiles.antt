@@ -1,9 +1,8 @@
 -- Which files have been delivered, by what is waited for.
 use Rattle.std.proofs.Common.{Bool, true, false, ◌≡◌, ℕ, List, [], ◌∷◌, ◌++◌, refl, sym, ap, subst, ◌∙◌, append-nil, append_assoc}
-use Rattle.std.proofs.lemmas.List.{map-append}
 use Rattle.std.specs.Prelude.{Option}
-use Rattle.attribution.proofs.LegalNext.{nothing_follows_a_finish, finishes_are_last}
-use Rattle.attribution.specs.ItemLaws.{stop_at, stops_at}
+use Rattle.attribution.proofs.LegalNext.{finishes_are_last}
+use Rattle.attribution.specs.ItemLaws.{stops_at}
 use Rattle.code_event.specs.FileLaws.{running_after}
 use Rattle.code_event.specs.ItemFile.{item_files}
 use Rattle.code_event.specs.ItemList.{IsLegalItems}
@@ -11,7 +10,6 @@ use Rattle.code_event.specs.declared.event.CodeEvent.TheVariants.{Finish}
 use Rattle.code_event.specs.declared.event.EventRecord.{EventRecord}
 use Rattle.code_event.specs.declared.tick.Item.{Item}
 use Rattle.code_event.specs.declared.tick.Item.TheVariants as item
-use Rattle.item_fold.proofs.Ending.{open_stops, files_more, finish_files}
 use Rattle.out_stream.specs.Parts.{Parts}
 use Rattle.processor.specs.Course.{IsFinishing, IsFiledAt}
 use Rattle.processor.specs.CourseLaws.{AreDelivered, FilesAreDelivered, NothingFollowsTheEnd, waiting_in}
@@ -19,50 +17,36 @@ use Rattle.processor.specs.Filing.{FilingParts, HasDelivered}
 use Rattle.processor.specs.Running.{sessions_of}
 use Rattle.processor.specs.declared.turn.Phase.{Phase}
 use Rattle.processor.proofs.Turns.{legal_before}
+use Rattle.processor.proofs.WaitingFiles.{waiting_files}
 use Rattle.processor.specs.declared.turn.Phase.TheVariants as phase
 
-all_delivered : (base : ℕ) (items : List Item) (waiting : List ℕ) (filing : FilingParts) (before now : Option Parts) → HasDelivered (item_files base items) filing.delivery filing.is_spent filing.notes before now
-    → AreDelivered base items waiting filing before now
-all_delivered base items waiting filing before now h = record {
+all_delivered : (base : ℕ) (items : List Item) (filing : FilingParts) (before now : Option Parts) → HasDelivered (item_files base items) filing.delivery filing.is_spent filing.notes before now
+    → AreDelivered base items [] filing before now
+all_delivered base items filing before now h = record {
   finished = item_files base items;
   later = [];
   all = sym (append-nil (item_files base items));
-  none_waits = λ e. refl;
+  whose = refl;
   delivered = h;
 }
 
 some_wait : (base : ℕ) (items : List Item) (time : ℕ) (filing : FilingParts) (before now : Option Parts) (waiting : List ℕ) → IsLegalItems items → (h : IsFinishing base items time filing before now)
     → running_after h.earlier ≡ h.ended ++ waiting → AreDelivered base items waiting filing before now
-some_wait base items time filing before now [] legal h running =
-    let whole = subst IsLegalItems h.all legal in
-    let files : item_files base items ≡ item_files base (h.earlier ++ stops_at time h.ended) =
-    ap (item_files base) h.all ∙ finish_files base h.earlier h.event time h.ended whole h.is_finish (running ∙ append-nil h.ended) in
+some_wait base items time filing before now waiting legal h running =
+    let others = waiting_files base h.earlier h.event time h.ended waiting (subst IsLegalItems h.all legal) h.is_finish running in
     record {
       finished = item_files base (h.earlier ++ stops_at time h.ended);
-      later = [];
-      all = files ∙ sym (append-nil (item_files base (h.earlier ++ stops_at time h.ended)));
-      none_waits = λ e. refl;
-      delivered = h.filed.delivered;
-    }
-some_wait base items time filing before now (n ∷ ns) legal h running =
-    let whole = subst IsLegalItems h.all legal in
-    let sofar : List Item = h.earlier ++ stops_at time h.ended in
-    let split : h.earlier ++ stops_at time (h.ended ++ n ∷ ns) ≡ sofar ++ stops_at time (n ∷ ns) =
-    ap (λ (l : List Item). h.earlier ++ l) (map-append (stop_at time) h.ended (n ∷ ns)) ∙ sym (append_assoc h.earlier (stops_at time h.ended) (stops_at time (n ∷ ns))) in
-    let added = files_more base sofar (stops_at time (n ∷ ns)) (open_stops h.earlier time h.ended (nothing_follows_a_finish h.earlier [] (item.Event h.event) whole)) in
-    record {
-      finished = item_files base sofar;
-      later = added.0;
-      all = ap (item_files base) h.all ∙ finish_files base h.earlier h.event time (h.ended ++ n ∷ ns) whole h.is_finish running ∙ ap (item_files base) split ∙ added.1;
-      none_waits = λ e. absurd (cc e);
+      later = others.0;
+      all = ap (item_files base) h.all ∙ others.1;
+      whose = others.2;
       delivered = h.filed.delivered;
     }
 
 by_phase : (p : Phase) (base : ℕ) (items : List Item) (filing : FilingParts) (before now : Option Parts) → IsLegalItems items → IsFiledAt p base items filing before now
     → AreDelivered base items (waiting_in p filing.running) filing before now
-by_phase phase.Open base items filing before now legal h = all_delivered base items [] filing before now h.1.delivered
+by_phase phase.Open base items filing before now legal h = all_delivered base items filing before now h.1.delivered
 by_phase (phase.Finishing time) base items filing before now legal h = some_wait base items time filing before now (sessions_of filing.running) legal h h.running
-by_phase phase.Closed base items filing before now legal h = all_delivered base items [] filing before now h.delivered
+by_phase phase.Closed base items filing before now legal h = all_delivered base items filing before now h.delivered
 
 pub files_are_delivered : FilesAreDelivered
 files_are_delivered base items applied ticked course before now s legal = by_phase course.phase base items course.filing before now legal (s.filed legal)

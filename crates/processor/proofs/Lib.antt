@@ -9,3 +9,4 @@ pub mod Stopped
 pub mod Taking
 pub mod Telling
 pub mod Turns
+pub mod WaitingFiles

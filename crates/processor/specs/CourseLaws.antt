@@ -1,5 +1,5 @@
 -- Which files a processor has delivered.
-use Rattle.std.specs.Prelude.{◌≡◌, ℕ, List, [], ◌++◌, Option}
+use Rattle.std.specs.Prelude.{◌≡◌, ℕ, List, [], ◌++◌, map, Option}
 use Rattle.code_event.specs.ItemFile.{SessionFile, item_files}
 use Rattle.code_event.specs.ItemList.{IsLegalItems}
 use Rattle.code_event.specs.declared.tick.Item.{Item}
@@ -17,12 +17,12 @@ waiting_in phase.Open running = []
 waiting_in (phase.Finishing time) running = sessions_of running
 waiting_in phase.Closed running = []
 
--- The first of the files of these items are finished, and were delivered as far as the filing says. Those that follow wait, and where no session waits all are finished.
+-- The first of the files of these items are finished, and were delivered as far as the filing says. Those that follow are the files of the sessions that wait, one each, in order; so where none waits, all are finished.
 pub record AreDelivered (base : ℕ) (items : List Item) (waiting : List ℕ) (filing : FilingParts) (before now : Option Parts) : Type 0 where
   pub finished : List SessionFile
   pub later : List SessionFile
   pub all : item_files base items ≡ finished ++ later
-  pub none_waits : waiting ≡ [] → later ≡ []
+  pub whose : map (λ file. file.session) later ≡ waiting
   pub delivered : HasDelivered finished filing.delivery filing.is_spent filing.notes before now
 
 -- a processor has delivered the files of the legal items that it has taken, but for those of the sessions that wait

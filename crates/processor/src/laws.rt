@@ -11,7 +11,8 @@ pub fn taking_keeps_the_order()
 {}
 
 /// A processor has delivered the files of the legal items that it has taken, as far as its delivery and
-/// its memory say, but for those of the sessions that a finish has ended and that still wait.
+/// its memory say, but for those of the sessions that a finish has ended and that still wait: the files
+/// that are left are one of each of these, in the order in which they wait.
 pub fn files_are_delivered()
     ensures { FilesAreDelivered }
 {}
