@@ -15,21 +15,16 @@ pub(crate) enum Step {
 /// Reads the steps that the words of a line name, for a list with this number of items.
 pub(crate) fn steps_of(alloc: Global, words: &str, count: usize) -> Result<Vec<Step>, AllocError> {
     match words {
-        "all" => put_first(alloc, 0, count, false),
-        "each" => put_first(alloc, 0, count, true),
+        "all" => in_list_order(alloc, count, false),
+        "each" => in_list_order(alloc, count, true),
         _ => named_steps(alloc, words),
     }
 }
 
-// Makes the steps that put the items of these places, with turns after each or at the end alone.
-fn put_first(
-    alloc: Global,
-    first: usize,
-    count: usize,
-    is_each: bool,
-) -> Result<Vec<Step>, AllocError> {
+// Makes the steps in which all items arrive in order, with turns after each or at the end alone.
+fn in_list_order(alloc: Global, count: usize, is_each: bool) -> Result<Vec<Step>, AllocError> {
     let mut steps = Vec::new(alloc);
-    for at in first..count {
+    for at in 0..count {
         steps.push(Step::Put(at))?;
         if is_each {
             steps.push(Step::Turn)?;
@@ -51,7 +46,7 @@ fn named_steps(alloc: Global, words: &str) -> Result<Vec<Step>, AllocError> {
     Ok(steps)
 }
 
-// The queues that items go to.
+/// The queues that items go to.
 #[derive(Clone, Copy, PartialEq, Eq)]
 pub(crate) enum Queue {
     Events,
@@ -91,6 +86,15 @@ fn first_left(queues: &[Queue], order: &[usize], queue: Queue) -> Option<usize> 
     None
 }
 
+// Returns the places of the first items in order.
+fn first_places(alloc: Global, first: usize) -> Result<Vec<usize>, AllocError> {
+    let mut places = Vec::new(alloc);
+    for at in 0..first {
+        places.push(at)?;
+    }
+    Ok(places)
+}
+
 /// Returns the order of arrival with this number: its digits in the system of base 3 name the queue of
 /// each next item, after the first items have arrived in the list's order. None where one of these
 /// queues gets no more.
@@ -100,10 +104,7 @@ pub(crate) fn order_of(
     first: usize,
     number: u64,
 ) -> Result<Option<Vec<usize>>, AllocError> {
-    let mut order = Vec::new(alloc);
-    for at in 0..first {
-        order.push(at)?;
-    }
+    let mut order = first_places(alloc, first)?;
     let mut rest = number;
     for _ in first..queues.len() {
         let queue = match rest % 3 {

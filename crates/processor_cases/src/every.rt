@@ -1,5 +1,5 @@
 // Every order in which items can arrive, where each queue gets its own in the list's order.
-use crate::arrival::{order_of, queues_of, steps_in};
+use crate::arrival::{Step, order_of, queues_of, steps_in};
 use crate::heading::Heading;
 use crate::out_of_memory;
 use crate::reference::Reference;
@@ -8,6 +8,7 @@ use crate::taking::print_taken;
 use code_event::PortFile;
 use item_text::ItemList;
 use processor::{Delivery, PortCall, ProcTurn};
+use prof_base::Memory;
 use std::alloc::Global;
 use std::io;
 
@@ -41,10 +42,10 @@ pub(crate) fn print_takes(
     for number in 0..choices(queues.len().saturating_sub(first)) {
         if let Some(order) = order_of(alloc, &queues, first, number)? {
             print_order(rt, &order, first)?;
-            for is_each in [false, true] {
-                let steps = steps_in(alloc, &order, first, is_each)?;
-                print_taken(rt, alloc, heading, list, &steps)?;
-            }
+            let steps = steps_in(alloc, &order, first, false)?;
+            print_taken(rt, alloc, heading, list, &steps)?;
+            let steps = steps_in(alloc, &order, first, true)?;
+            print_taken(rt, alloc, heading, list, &steps)?;
         }
     }
     Ok(())
@@ -76,6 +77,19 @@ fn is_same(run: Run, reference: &Reference) -> bool {
     is_fine && ended && given && noted == parts.len() && reference.has_parts(parts)
 }
 
+// Returns whether a run with these steps is as the fold.
+fn goes_as_fold(
+    alloc: Global,
+    heading: &Heading,
+    list: &ItemList,
+    reference: &Reference,
+    steps: &[Step],
+) -> Result<bool, Memory> {
+    let mut run = begun(alloc, heading, list)?;
+    run.go(alloc, heading, list.items.as_slice(), steps, true)?;
+    Ok(is_same(run, reference))
+}
+
 /// Counts the orders, each with turns at the end and with turns after each arrival, and those in which
 /// the files are those of the fold.
 pub(crate) fn print_count(
@@ -86,21 +100,15 @@ pub(crate) fn print_count(
     reference: &Reference,
     first: usize,
 ) -> Result<(), io::Error> {
-    let items = list.items.as_slice();
-    let queues = queues_of(alloc, heading, items)?;
+    let queues = queues_of(alloc, heading, list.items.as_slice())?;
     let mut runs = 0u64;
     let mut same = 0u64;
-    for number in 0..choices(queues.len().saturating_sub(first)) {
-        if let Some(order) = order_of(alloc, &queues, first, number)? {
-            for is_each in [false, true] {
-                let steps = steps_in(alloc, &order, first, is_each)?;
-                let mut run = begun(alloc, heading, list).map_err(out_of_memory)?;
-                run.go(alloc, heading, items, &steps, true)
-                    .map_err(out_of_memory)?;
-                runs = runs.saturating_add(1);
-                if is_same(run, reference) {
-                    same = same.saturating_add(1);
-                }
+    for number in 0..choices(queues.len().saturating_sub(first)).saturating_mul(2) {
+        if let Some(order) = order_of(alloc, &queues, first, number / 2)? {
+            let steps = steps_in(alloc, &order, first, number % 2 == 1)?;
+            runs = runs.saturating_add(1);
+            if goes_as_fold(alloc, heading, list, reference, &steps).map_err(out_of_memory)? {
+                same = same.saturating_add(1);
             }
         }
     }

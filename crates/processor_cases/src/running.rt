@@ -1,6 +1,4 @@
 // A processor that items arrive at.
-ghost use Rattle.std.specs.Prelude.{◌≤◌};
-
 use crate::arrival::Step;
 use crate::heading::Heading;
 use crate::putting::{offer_sample, put_event, put_vm_tick};
@@ -57,13 +55,8 @@ pub(crate) fn begun(alloc: Global, heading: &Heading, list: &ItemList) -> Result
 }
 
 impl Run {
-    /// Lets an item arrive.
-    pub(crate) fn put(
-        &mut self,
-        alloc: Global,
-        heading: &Heading,
-        item: &Item,
-    ) -> Result<(), Memory> {
+    // Lets an item arrive.
+    fn put(&mut self, alloc: Global, heading: &Heading, item: &Item) -> Result<(), Memory> {
         match item {
             Item::Event(record) => put_event(alloc, self.processor.events(), record),
             Item::Tick(tick) => {
@@ -101,7 +94,31 @@ impl Run {
         }
     }
 
-    /// Does the steps.
+    // Does a step.
+    fn step(
+        &mut self,
+        alloc: Global,
+        heading: &Heading,
+        items: &[Item],
+        step: Step,
+        at_once: bool,
+    ) -> Result<(), Memory> {
+        match step {
+            Step::Put(at) => match items.get(at) {
+                Some(item) => self.put(alloc, heading, item),
+                None => Ok(()),
+            },
+            Step::Turn => {
+                if at_once {
+                    self.turn_at_once()
+                } else {
+                    self.turn()
+                }
+            }
+        }
+    }
+
+    /// Does the steps. If `at_once`, only the last answer of turns that follow one another is kept.
     pub(crate) fn go(
         &mut self,
         alloc: Global,
@@ -111,20 +128,7 @@ impl Run {
         at_once: bool,
     ) -> Result<(), Memory> {
         for step in steps {
-            match step {
-                Step::Put(at) => {
-                    if let Some(item) = items.get(*at) {
-                        self.put(alloc, heading, item)?;
-                    }
-                }
-                Step::Turn => {
-                    if at_once {
-                        self.turn_at_once()?;
-                    } else {
-                        self.turn()?;
-                    }
-                }
-            }
+            self.step(alloc, heading, items, *step, at_once)?;
         }
         Ok(())
     }

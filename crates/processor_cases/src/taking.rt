@@ -1,6 +1,4 @@
 // The order in which items are taken.
-ghost use Rattle.std.specs.Prelude.{◌≤◌};
-
 use crate::arrival::Step;
 use crate::heading::Heading;
 use crate::out_of_memory;
