@@ -1,9 +1,7 @@
 // Code objects.
-ghost use Rattle.std.specs.Prelude.{◌≡◌, ◌≤◌, length};
+ghost use Rattle.std.specs.Prelude.{◌≡◌};
 ghost use Rattle.std.specs.List.Sorted.{IsNonDecreasingBy};
-ghost use Rattle.code_event.specs.Layout.{IsLayout};
 ghost use Rattle.code_layout.specs.Laws.{slot_of};
-ghost use Rattle.code_objects.specs.Changes.{moved_by};
 ghost use Rattle.code_objects.specs.Objects.{ArePlaces, index_of, object_moved};
 
 use crate::moves::start_after;

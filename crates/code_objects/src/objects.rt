@@ -1,5 +1,5 @@
 // The code objects of a program.
-ghost use Rattle.std.specs.Prelude.{◌≡◌, ◌<◌, ◌≤◌, ◌+◌, [], ◌∷◌, ℕ, List, length, map, Some, None, option_map, option_to_list, is_some, IfOk, IfSome, IfErr, OnOk, OnErr};
+ghost use Rattle.std.specs.Prelude.{◌≡◌, ◌<◌, ◌≤◌, ◌+◌, [], ◌∷◌, List, length, map, Some, None, option_map, option_to_list, is_some, IfOk, IfSome, IfErr, OnOk, OnErr};
 ghost use Rattle.std.specs.Option.{option_copied};
 ghost use Rattle.guest_program.specs.InlinedSize.{inlined_size};
 ghost use Rattle.code_event.specs.declared.code_map.Range.{Range};

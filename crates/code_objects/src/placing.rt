@@ -1,6 +1,5 @@
 // Where the code of a layout is placed.
-ghost use Rattle.std.specs.Prelude.{◌≡◌, ◌<◌, ◌≤◌, ◌+◌, ◌%◌, length, IfOk, OnOk, OnErr};
-ghost use Rattle.code_event.specs.declared.layout.TheConstants.Layout.{MAX_SLOTS};
+ghost use Rattle.std.specs.Prelude.{◌≡◌, ◌<◌, ◌≤◌, ◌%◌, length, IfOk, OnErr};
 ghost use Rattle.code_space.specs.Space.{IsSpace, IsLeastFit, inserted};
 ghost use Rattle.code_objects.specs.Changes.{code_size, space_of};
 

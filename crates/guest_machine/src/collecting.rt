@@ -1,5 +1,5 @@
 // What the instructions do that free and move code.
-ghost use Rattle.std.specs.Prelude.{◌≡◌, ◌<◌, ◌∷◌, false, length, IfOk, IsFalse};
+ghost use Rattle.std.specs.Prelude.{◌≡◌, ◌<◌, ◌∷◌, false, IfOk, IsFalse};
 ghost use Rattle.std.specs.List.{AllByRecursion, list_any};
 ghost use Rattle.code_objects.specs.Changes.{same_name};
 ghost use Rattle.guest_machine.specs.Machine.{Acts, IsMachine, program_of};

@@ -1,14 +1,10 @@
 // Where frames are in code.
 ghost use Rattle.std.specs.Prelude.{◌≡◌, ◌<◌, ◌≤◌, ◌+◌, length, IsTrue};
-ghost use Rattle.std.specs.Option.{option_map_or};
 ghost use Rattle.code_event.specs.Layout.{site_of};
 ghost use Rattle.code_event.specs.declared.layout.TheConstants.{SLOT_SIZE};
 ghost use Rattle.code_layout.specs.Laws.{func_at, slot_of};
 ghost use Rattle.code_objects.specs.CodeObjects.{layout_of, start_at};
-ghost use Rattle.guest_program.specs.Program.{IsOp};
-ghost use Rattle.guest_program.specs.declared.instr.TheConstants.Func.{MAX_BODY};
 ghost use Rattle.guest_machine.specs.Machine.{IsMachine, Rises, next_op, program_of, youngest_layout};
-ghost use Rattle.guest_machine.specs.NeverOptimises.{LeavesCodePlain};
 ghost use Rattle.guest_machine.specs.Stack.{address};
 ghost use Rattle.guest_machine.specs.StackLaws.{IsAtSlot, IsPlaced};
 

@@ -7,7 +7,6 @@ mod asked;
 mod plain;
 
 ghost use Rattle.guest_machine.specs.Machine.{IsMachine};
-ghost use Rattle.guest_machine.specs.NeverOptimises.{NeverOptimises};
 
 use crate::asked::Asked;
 use crate::plain::never_optimises;
