@@ -52,7 +52,7 @@ pub files_are_delivered : FilesAreDelivered
 files_are_delivered base items applied ticked course before now s legal = by_phase course.phase base items course.filing before now legal (s.filed legal)
 
 -- nothing follows the items, where no item is waited for
-last_item : (items earlier rest : List Item) (e : EventRecord) (time : ℕ) (files : Bool) → items ≡ earlier ++ item.Event e ∷ [] → e.event ≡ Finish time files → IsLegalItems (items ++ rest) → rest ≡ []
+pub last_item : (items earlier rest : List Item) (e : EventRecord) (time : ℕ) (files : Bool) → items ≡ earlier ++ item.Event e ∷ [] → e.event ≡ Finish time files → IsLegalItems (items ++ rest) → rest ≡ []
 last_item items earlier rest e time files all is legal =
     finishes_are_last earlier rest e time files (subst IsLegalItems (ap (λ (l : List Item). l ++ rest) all ∙ append_assoc earlier (item.Event e ∷ []) rest) legal) is
 

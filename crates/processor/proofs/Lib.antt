@@ -2,6 +2,7 @@ pub mod Delivered
 pub mod DeliveredFiles
 pub mod FiledItems
 pub mod OnCourse
+pub mod PlainSteps
 pub mod PlainTaking
 pub mod PlainTurns
 pub mod RunningSessions
@@ -9,4 +10,5 @@ pub mod Stopped
 pub mod Taking
 pub mod Telling
 pub mod Turns
+pub mod TurnsLeft
 pub mod WaitingFiles

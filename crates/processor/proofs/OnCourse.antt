@@ -1,8 +1,8 @@
 -- What a course has filed after one more item, and after one more session of a finish.
 use Rattle.std.proofs.Common.{◌≡◌, ℕ, List, [], ◌∷◌, ◌++◌, map, Bool, true, false, cond, not, ◌==◌, refl, sym, ap, subst, ◌∙◌, append-nil, append_assoc, inl, inr}
 use Rattle.std.proofs.lemmas.Cmp.{nat_cmp_total}
-use Rattle.std.specs.Prelude.{Option, None}
-use Rattle.std.specs.List.{AllByRecursion}
+use Rattle.std.specs.Prelude.{Option, Some, None}
+use Rattle.std.specs.List.{AllByRecursion, slice_get}
 use Rattle.std.specs.Ordering.{nat_cmp}
 use Rattle.prof_base.proofs.Ordered.{Has, contains_from_has, put_rises}
 use Rattle.prof_base.specs.Ordered.{Rises, AllAfter}
@@ -32,10 +32,11 @@ use Rattle.item_fold.specs.declared.delivery.FileNote.{FileNote}
 use Rattle.out_stream.specs.Parts.{Parts}
 use Rattle.prof_base.specs.declared.ids.SessionId.{SessionId}
 use Rattle.session_book.specs.Begun.{begun_after}
-use Rattle.processor.specs.Course.{CourseParts, IsClosed, IsFinishing, IsFiledAt, IsOnCourse, Courses, CoursesEvent, GivesNext}
+use Rattle.processor.specs.Course.{CourseParts, IsClosed, IsFinishing, IsFiledAt, IsOnCourse, Courses, CoursesEvent, GivesNext, EndsFirst}
 use Rattle.processor.specs.Filing.{FilingParts, HasDelivered, HasFiled, Files, FilesEvent, AtStop, GivesFile}
 use Rattle.processor.specs.Running.{sessions_of, without_session, port_in}
 use Rattle.processor.specs.declared.ports.PortCall.{PortCall}
+use Rattle.processor.specs.declared.running.SessionPort.{SessionPort}
 use Rattle.processor.specs.declared.turn.Delivery.{Delivery}
 use Rattle.processor.specs.declared.turn.Phase.TheVariants as phase
 use Rattle.processor.proofs.Delivered.{spent_later}
@@ -203,3 +204,8 @@ finish_gives old s rest time is_spent parts given given' runs gives base items b
     (subst (λ (text : Option (List ℕ)). GivesFile (port_in old.running s.0) s text old.is_spent is_spent given given')
     (file_at_finish base h.earlier h.event time h.ended s.0 whole h.is_finish among ∙ ap (λ (l : List Item). item_file base l s) (sym h.all))
     (at_next old s rest time parts (λ b all from. GivesFile (port_in old.running s.0) s (item_file b all s) old.is_spent is_spent given given') runs gives base items before legal h))
+
+-- the first session that waits has ended, where it stopped
+pub ends_first : (running : List SessionPort) (old new : FilingParts) (number : ℕ) → Some number ≡ slice_get (sessions_of running) 0 → new.running ≡ without_session number running → EndsFirst running old new
+ends_first [] old new number first ended = absurd (cc first)
+ends_first (r ∷ running) old new number first ended = subst (λ n. new.running ≡ without_session n (r ∷ running)) (cc first) ended

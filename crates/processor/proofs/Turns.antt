@@ -50,6 +50,8 @@ item_turn ends ends' applied ticked applied' ticked' old new parts parts' given 
   next = next;
   passes = passes;
   answers = answers;
+  stays = tt;
+  waiting = tt;
   stands = λ base items before s. record {
     taken = subst (λ n. HasTaken n ticked' (items ++ x ∷ [])) (sym applied_is)
         (subst (λ n. HasTaken (applied_with applied x) n (items ++ x ∷ [])) (sym ticked_is) (taking_adds_the_next applied ticked items x s.taken next));

@@ -12,9 +12,10 @@ use Rattle.code_event.specs.declared.tick.Item.{Item}
 use Rattle.code_event.specs.declared.tick.Item.TheVariants as item
 use Rattle.out_stream.specs.Parts.{Parts}
 use Rattle.processor.specs.Filing.{FilingParts, HasDelivered, HasFiled, GivesFile, AreToldLost}
-use Rattle.processor.specs.Running.{port_in, sessions_of}
+use Rattle.processor.specs.Running.{port_in, sessions_of, without_session}
 use Rattle.processor.specs.Taking.{HasTaken}
 use Rattle.processor.specs.declared.ports.PortCall.{PortCall}
+use Rattle.processor.specs.declared.running.SessionPort.{SessionPort}
 use Rattle.processor.specs.declared.turn.Phase.{Phase}
 use Rattle.processor.specs.declared.turn.Phase.TheVariants as phase
 use Rattle.processor.specs.declared.turn.ProcTurn.{ProcTurn}
@@ -121,3 +122,14 @@ GivesWaiting phase.Closed base items old is_spent given given' = given' ≡ give
 abbrev pub GivesTurn : Option Item → ℕ → List Item → CourseParts → Bool → Option (List PortCall) → Option (List PortCall) → Type 0
 GivesTurn None base items old is_spent given given' = GivesWaiting old.phase base items old.filing is_spent given given'
 GivesTurn (Some x) base items old is_spent given given' = GivesItem base items x old.filing is_spent given given'
+
+-- the first of these sessions, which wait, has ended, and waits no more; where none waits, all is as it was
+abbrev pub EndsFirst : List SessionPort → FilingParts → FilingParts → Type 0
+EndsFirst [] old new = new ≡ old
+EndsFirst (r ∷ running) old new = new.running ≡ without_session r.session.0 (r ∷ running)
+
+-- what a turn that took no item has done, by what it waited for: it has ended the first session that waits, if one does, and else nothing
+abbrev pub EndsWaiting : Phase → FilingParts → FilingParts → Type 0
+EndsWaiting phase.Open old new = new ≡ old
+EndsWaiting (phase.Finishing time) old new = EndsFirst old.running old new
+EndsWaiting phase.Closed old new = new ≡ old

@@ -7,7 +7,7 @@ use Rattle.code_event.specs.declared.tick.Item.{Item}
 use Rattle.code_event.specs.declared.tick.Tick.{Tick}
 use Rattle.out_stream.specs.Parts.{Parts}
 use Rattle.pipe_core.specs.Observed.{IfThere}
-use Rattle.processor.specs.Course.{CourseParts, StandsFor, GivesTurn, turn_answer}
+use Rattle.processor.specs.Course.{CourseParts, StandsFor, EndsWaiting, GivesTurn, turn_answer}
 use Rattle.processor.specs.Taking.{is_next, events_with, HavePassed, LosesEvent, LosesTick}
 use Rattle.processor.specs.declared.ports.PortCall.{PortCall}
 use Rattle.processor.specs.declared.turn.Phase.TheVariants as phase
@@ -39,13 +39,15 @@ pub record PassesThrough (old new : Ends) (taken : Option Item) : Type 0 where
   pub held_events : IfThere taken (new.held_events ≡ old.held_events) (λ x. LosesEvent old.held_events new.held_events x)
   pub held_ticks : IfThere taken ((new.held_vm_ticks ≡ old.held_vm_ticks) × (new.held_samples ≡ old.held_samples)) (λ x. LosesTick old.held_vm_ticks new.held_vm_ticks old.held_samples new.held_samples x)
 
--- What a turn does, but for its answer where memory runs out. It takes an item only where it waits for one, and only the next one. Whatever items the processor has taken, it has afterwards taken them and the item.
+-- What a turn does, but for its answer where memory runs out. It takes an item only where it waits for one, and only the next one. Where it takes none, it ends the first session that waits, if one does. Whatever items the processor has taken, it has afterwards taken them and the item.
 pub record IsTurn (ends ends' : Ends) (applied ticked applied' ticked' : ℕ) (old new : CourseParts) (parts parts' : Option Parts) (given given' : Option (List PortCall)) (answer : ProcTurn) : Type 0 where
   pub taken : Option Item
   pub going : IfThere taken (Unit {0}) (λ _. old.phase ≡ phase.Open)
   pub next : IfThere taken (Unit {0}) (λ x. is_next applied ticked x ≡ true)
   pub passes : PassesThrough ends ends' taken
   pub answers : answer ≡ turn_answer old taken
+  pub stays : IfThere taken (new.phase ≡ old.phase) (λ _. Unit {0})
+  pub waiting : IfThere taken (EndsWaiting old.phase old.filing new.filing) (λ _. Unit {0})
   pub stands : (base : ℕ) (items : List Item) (before : Option Parts) → StandsFor base items applied ticked old before parts
       → StandsFor base (items ++ option_to_list taken) applied' ticked' new before parts'
   pub gives : (base : ℕ) (items : List Item) (before : Option Parts) → StandsFor base items applied ticked old before parts → IsLegalItems (items ++ option_to_list taken)

@@ -8,7 +8,7 @@ ghost use Rattle.code_event.specs.declared.event.EventRecord.{EventRecord};
 ghost use Rattle.code_event.specs.declared.tick.Item.{Item};
 ghost use Rattle.code_event.specs.declared.tick.Item.TheVariants as item;
 ghost use Rattle.out_stream.specs.Parts.{Parts};
-ghost use Rattle.processor.specs.Course.{IsFinishing, IsOnCourse, Courses, CoursesEvent, GivesAt, GivesItem, GivesNext, event_answer, item_answer, waiting_answer};
+ghost use Rattle.processor.specs.Course.{EndsFirst, IsFinishing, IsOnCourse, Courses, CoursesEvent, GivesAt, GivesItem, GivesNext, event_answer, item_answer, waiting_answer};
 ghost use Rattle.processor.specs.Running.{sessions_of};
 
 use crate::filing::Filing;
@@ -195,6 +195,7 @@ impl Course {
         ensures answer { result ≡ waiting_answer (Phase.Finishing time) (sessions_of self.old.filing.running) }
         ensures phase { self.new.phase ≡ self.old.phase }
         ensures over { result ≡ ProcTurn.Over → sessions_of self.new.filing.running ≡ [] }
+        ensures ends { EndsFirst self.old.filing.running self.old.filing self.new.filing }
         ensures goes_on { (base : ℕ) (items : List Item) (before : Option Parts) → IsLegalItems items → IsFinishing base items time self.old.filing before (S.parts stream.old)
             → IsFinishing base items time self.new.filing before (S.parts stream.new) }
         ensures gives { (base : ℕ) (items : List Item) (before : Option Parts) → IsLegalItems items → IsFinishing base items time self.old.filing before (S.parts stream.old)

@@ -1,12 +1,13 @@
 // Taking from the queues of one thread.
-ghost use Rattle.std.specs.Prelude.{◌≡◌, ℕ, List, [], ◌∷◌, ◌++◌, Option, Some};
+ghost use Rattle.std.specs.Prelude.{◌≡◌, ◌≤◌, ◌+◌, ◌⊎◌, ℕ, List, [], ◌∷◌, ◌++◌, length, Option, Some, None};
 ghost use Rattle.code_event.specs.declared.tick.Item.{Item};
 ghost use Rattle.pipe_core.specs.Observed.{IfThere};
 ghost use Rattle.out_stream.specs.Parts.{Parts};
 ghost use Rattle.processor.specs.Course.{StandsFor};
 ghost use Rattle.processor.specs.CourseLaws.{AreDelivered};
-ghost use Rattle.processor.specs.Plain.{GoesOn};
+ghost use Rattle.processor.specs.Plain.{GoesOn, IsPlainTurn};
 ghost use Rattle.code_event.specs.ItemList.{IsLegalItems};
+ghost use Rattle.processor.specs.Running.{running_ports};
 ghost use Rattle.processor.specs.Taking.{HasTaken};
 ghost use Rattle.processor.specs.TakingLaws.{HoldRest};
 
@@ -35,15 +36,20 @@ pub fn take_plain(
 }
 
 /// A turn of a processor over three queues of one thread. Where they hold what follows the items taken
-/// in a stamped list, they hold afterwards what follows then. Nothing is answered only where nothing
-/// follows: all is taken. Where Over is answered and the list is legal, all its files are delivered, as
-/// far as the delivery and the memory say.
+/// in a stamped list, it takes the first item of that, if it waits for one and there is one, and they
+/// hold afterwards what follows then; else it ends the first session that waits, if one does. Nothing is
+/// answered only where nothing follows: all is taken. Where Over is answered and the list is legal, all
+/// its files are delivered, as far as the delivery and the memory say.
 pub fn turn_plain<S: OutputStream, X: FilePorts>(
     processor: &mut Processor<PlainQueue<EventRecord>, PlainQueue<Tick>, PlainRing, S>,
     ports: &mut X,
 ) -> ProcTurn
     ensures nothing { result ≡ ProcTurn.Nothing → (items rest : List Item) → HasTaken processor.old.applied processor.old.ticked items
         → HoldRest items rest processor.old.events.items processor.old.vm_ticks.items processor.old.ring.items → rest ≡ [] }
+    ensures progress { (base : ℕ) (items rest : List Item) (before : Option Parts)
+        → StandsFor base items processor.old.applied processor.old.ticked processor.old.course before (S.parts processor.old.stream)
+        → HoldRest items rest processor.old.events.items processor.old.vm_ticks.items processor.old.ring.items
+        → IsPlainTurn base items rest processor.old.course processor.new.course result processor.new.applied processor.new.ticked before (S.parts processor.new.stream) processor.new.events.items processor.new.vm_ticks.items processor.new.ring.items }
     ensures goes_on { (base : ℕ) (items rest : List Item) (before : Option Parts)
         → StandsFor base items processor.old.applied processor.old.ticked processor.old.course before (S.parts processor.old.stream)
         → HoldRest items rest processor.old.events.items processor.old.vm_ticks.items processor.old.ring.items
@@ -61,12 +67,19 @@ pub fn turn_plain<S: OutputStream, X: FilePorts>(
 }
 
 /// Turns a processor over three queues of one thread until it answers Nothing or Over, and returns that
-/// answer; None where this many turns are too few.
+/// answer; None where this many turns are too few. Each turn takes an item, or ends a session that
+/// waits, so one more turn than there are items and sessions that run after all of a legal list is
+/// enough.
 pub fn turns_plain<S: OutputStream, X: FilePorts>(
     processor: &mut Processor<PlainQueue<EventRecord>, PlainQueue<Tick>, PlainRing, S>,
     ports: &mut X,
     most: u32,
 ) -> Option<ProcTurn>
+    ensures some { IfThere result (Unit {0}) (λ answer. (answer ≡ ProcTurn.Nothing) ⊎ (answer ≡ ProcTurn.Over)) }
+    ensures enough { result ≡ None → (base : ℕ) (items rest : List Item) (before : Option Parts)
+        → StandsFor base items processor.old.applied processor.old.ticked processor.old.course before (S.parts processor.old.stream)
+        → HoldRest items rest processor.old.events.items processor.old.vm_ticks.items processor.old.ring.items → IsLegalItems (items ++ rest)
+        → most ≤ length rest + length (running_ports (items ++ rest)) }
     ensures goes_on { (base : ℕ) (items rest : List Item) (before : Option Parts)
         → StandsFor base items processor.old.applied processor.old.ticked processor.old.course before (S.parts processor.old.stream)
         → HoldRest items rest processor.old.events.items processor.old.vm_ticks.items processor.old.ring.items

@@ -4,8 +4,8 @@ use Rattle.code_event.specs.ItemList.{IsLegalItems}
 use Rattle.code_event.specs.declared.tick.Item.{Item}
 use Rattle.item_fold.proofs.Taking.{first_is}
 use Rattle.out_stream.specs.Parts.{Parts}
-use Rattle.processor.proofs.OnCourse.{finish_goes_on, finish_gives}
-use Rattle.processor.specs.Course.{IsFinishing, GivesNext}
+use Rattle.processor.proofs.OnCourse.{finish_goes_on, finish_gives, ends_first}
+use Rattle.processor.specs.Course.{IsFinishing, GivesNext, EndsFirst}
 use Rattle.processor.specs.Filing.{FilingParts}
 use Rattle.processor.specs.Running.{sessions_of}
 use Rattle.processor.proofs.course.Course.end_next.Goals as goal
@@ -23,3 +23,8 @@ returns-in-Some-clause-gives g c =
     subst (λ (f : FilingParts). (base : ℕ) (items : List Item) (before : Option Parts) → IsLegalItems items → IsFinishing base items c.args.time f before (g.S.OutputStream.parts c.args.stream.now)
     → GivesNext base items (sessions_of f.running) f c.stop.new.self.is_spent (g.X.FilePorts.given c.args.ports.now) (g.X.FilePorts.given c.stop.new.ports)) (λ i. (c.self.view_is i).filing)
     (finish_gives c.self.inside.filing c.in-Some.session first.0 c.args.time c.stop.new.self.is_spent (g.S.OutputStream.parts c.args.stream.now) (g.X.FilePorts.given c.args.ports.now) (g.X.FilePorts.given c.stop.new.ports) first.1 c.stop.ensures.gives)
+
+pub returns-in-Some-clause-ends : goal.returns-in-Some-clause-ends
+returns-in-Some-clause-ends g c =
+    subst (λ (f : FilingParts). EndsFirst f.running f c.stop.new.self) (λ i. (c.self.view_is i).filing)
+    (ends_first c.self.inside.filing.running c.self.inside.filing c.stop.new.self c.in-Some.session.0 c.in-Some.ensures c.stop.ensures.running)
