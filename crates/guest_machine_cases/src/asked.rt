@@ -3,9 +3,9 @@ use std::alloc::{AllocError, Global};
 
 /// The steps at which a case lists the frames, and the steps after which it stops.
 #[derive(Drop)]
-pub struct Asked {
-    pub frames: Vec<u64>,
-    pub steps: u64,
+pub(crate) struct Asked {
+    pub(crate) frames: Vec<u64>,
+    pub(crate) steps: u64,
 }
 
 // The most steps of a case that does not say after how many it stops.
@@ -23,7 +23,7 @@ fn push_numbers(numbers: &mut Vec<u64>, list: &str) -> Result<(), AllocError> {
 
 impl Asked {
     /// Reads what the lines `# frames STEP..` and `# steps N` of a case ask for.
-    pub fn of(alloc: Global, case: &str) -> Result<Asked, AllocError> {
+    pub(crate) fn of(alloc: Global, case: &str) -> Result<Asked, AllocError> {
         let mut asked = Asked {
             frames: Vec::new(alloc),
             steps: MOST_STEPS,

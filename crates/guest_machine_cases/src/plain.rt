@@ -28,7 +28,7 @@ fn are_plain_funcs(funcs: &[Func]) -> bool
 }
 
 /// Tests whether the functions never optimise one, give optimised code up or bar one from being optimised.
-pub fn never_optimises(funcs: &[Func]) -> bool
+pub(crate) fn never_optimises(funcs: &[Func]) -> bool
     ensures { IsTrue result → NeverOptimises funcs.now }
 {
     are_plain_funcs(funcs)

@@ -5,7 +5,6 @@
 mod arrival;
 mod every;
 mod heading;
-mod list;
 mod putting;
 mod reference;
 mod running;
@@ -13,8 +12,8 @@ mod shown;
 mod taking;
 
 use crate::heading::Heading;
-use crate::list::list_text;
 use crate::reference::{Reference, folded};
+use case_text::text_of;
 use item_text::{ItemList, read_items};
 use prof_base::Memory;
 use record_text::ReadRefused;
@@ -83,8 +82,9 @@ fn main(rt: HostRuntime) -> Result<(), io::Error> {
     for case in all.split("\n% ").skip(1) {
         let (title, rest) = case.split_once('\n').unwrap_or((case, ""));
         println!(rt; "% {title}")?;
-        let (lines, copied) = rest.split_once("\nlist\n").unwrap_or((rest, ""));
-        let text = list_text(alloc, copied)?;
+        let rest = rest.strip_suffix('\n').unwrap_or(rest);
+        let (lines, copied) = rest.split_once("\nlist").unwrap_or((rest, ""));
+        let text = text_of(alloc, copied)?;
         print_answers(&rt, alloc, lines, text.as_bytes())?;
     }
     Ok(())
