@@ -6,12 +6,12 @@ use Rattle.guest_program.specs.declared.instr.Op.{Op}
 use Rattle.code_event.specs.declared.layout.Slot.{Slot}
 use Rattle.guest_machine.proofs.Instructions.{next_fits, next_plain}
 use Rattle.guest_machine.proofs.KeptCode.{quiet_acts}
-use Rattle.guest_machine.proofs.Positions.{slot_there}
+use Rattle.guest_stack.proofs.Positions.{slot_there}
 use Rattle.guest_machine.proofs.Quiet.{IsSilent, does_quiet}
 use Rattle.guest_machine.specs.Machine.{Acts, Advances, DoesOp, IsMachine, body_at, next_op, printed_text, program_of}
 use Rattle.guest_machine.specs.NeverOptimises.{LeavesCodePlain}
-use Rattle.guest_machine.specs.PlainMachine.{does}
-use Rattle.guest_machine.specs.StackLaws.{IsAtSlot}
+use Rattle.plain_machine.specs.PlainMachine.{does}
+use Rattle.guest_stack.specs.Laws.{IsAtSlot}
 use Rattle.guest_machine.specs.declared.machine.Machine.{Machine}
 use Rattle.guest_machine.specs.declared.machine.StepDone.{StepDone}
 

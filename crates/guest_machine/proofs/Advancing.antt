@@ -10,16 +10,16 @@ use Rattle.code_event.specs.declared.tick.VmState.{VmState}
 use Rattle.code_layout.specs.Laws.{slot_of}
 use Rattle.code_layout.proofs.Standing.{found_is_right}
 use Rattle.code_objects.specs.CodeObjects.{depth_of, layout_of}
-use Rattle.guest_machine.proofs.StackActs.{unit_there, index_is, goes_to, is_below, is_past, still_in, registers_set, top_registers, rises_below, rises_past}
-use Rattle.guest_machine.proofs.Positions.{layout_is_code, slot_in_body, index_short}
-use Rattle.guest_machine.proofs.Stepping.{going_on_keeps_registers}
+use Rattle.guest_stack.proofs.StackActs.{unit_there, index_is, goes_to, is_below, is_past, still_in, registers_set, top_registers, rises_below, rises_past}
+use Rattle.guest_stack.proofs.Positions.{layout_is_code, slot_in_body, index_short}
+use Rattle.guest_stack.proofs.Stepping.{going_on_keeps_registers}
 use Rattle.guest_machine.specs.Machine.{IsMachine, IsInState, IsInYoungestBody, Advances, HasRisen, HasRunOff, Rises, program_of, youngest_layout, printed_text}
-use Rattle.guest_machine.specs.PlainMachine.{Frame, State, does, rises, ends, jumps, sets, waits, with_register, register}
-use Rattle.guest_machine.specs.Stack.{Stands, gone_on}
-use Rattle.guest_machine.specs.StackLaws.{IsAtSlot}
-use Rattle.guest_machine.specs.declared.stack.CodeFrame.{CodeFrame}
-use Rattle.guest_machine.specs.declared.ended.Ended.{Ended}
-use Rattle.guest_machine.specs.declared.ended.Ended.TheVariants as end
+use Rattle.plain_machine.specs.PlainMachine.{Frame, State, does, rises, ends, jumps, sets, waits, with_register, register}
+use Rattle.guest_stack.specs.Stack.{Stands, gone_on}
+use Rattle.guest_stack.specs.Laws.{IsAtSlot}
+use Rattle.guest_stack.specs.declared.stack.CodeFrame.{CodeFrame}
+use Rattle.plain_machine.specs.declared.ended.Ended.{Ended}
+use Rattle.plain_machine.specs.declared.ended.Ended.TheVariants as end
 use Rattle.guest_machine.specs.declared.machine.Machine.{Machine}
 
 -- the physical stack stands for the state's, which is this

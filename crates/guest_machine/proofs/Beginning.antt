@@ -16,14 +16,14 @@ use Rattle.code_event.specs.CodeMap.{same_entry}
 use Rattle.code_objects.specs.Changes.{HasCode, IsCreation, RangesFollow}
 use Rattle.code_objects.specs.CodeObjects.{CodeParts, LieAt, plain_name, start_at}
 use Rattle.code_objects.specs.declared.name.CodeName.{CodeName}
-use Rattle.guest_machine.proofs.Positions.{first_in_code}
-use Rattle.guest_machine.proofs.Stepping.{begins}
+use Rattle.guest_stack.proofs.Positions.{first_in_code}
+use Rattle.guest_stack.proofs.Stepping.{begins}
 use Rattle.guest_machine.specs.Machine.{IsMachine, Reflects, program_of}
 use Rattle.guest_machine.specs.NeverOptimises.{NeverOptimises}
-use Rattle.guest_machine.specs.PlainFrames.{reason_in}
-use Rattle.guest_machine.specs.PlainMachine.{main_from, main_of, plain_code, zeros}
-use Rattle.guest_machine.specs.Stack.{EachHasRegisters, Physical, Stands, begun, frame_at}
-use Rattle.guest_machine.specs.StackLaws.{IsPlaced}
+use Rattle.plain_machine.specs.PlainFrames.{reason_in}
+use Rattle.plain_machine.specs.PlainMachine.{main_from, main_of, plain_code, zeros}
+use Rattle.guest_stack.specs.Stack.{EachHasRegisters, Physical, Stands, begun, frame_at}
+use Rattle.guest_stack.specs.Laws.{IsPlaced}
 use Rattle.guest_machine.specs.declared.machine.Machine.{Machine}
 
 -- the function with this number is not the one before, whose label differs from all of these

@@ -25,16 +25,16 @@ use Rattle.code_objects.specs.declared.name.CodeName.{CodeName}
 use Rattle.code_objects.proofs.Keeping.{same_name_true}
 use Rattle.guest_machine.proofs.Advancing.{stands_for, ended_so, whole_ended}
 use Rattle.guest_machine.proofs.Instructions.{next_is}
-use Rattle.guest_machine.proofs.Positions.{layout_is_code, slot_is, slot_there, off_end, inlined_units_are_called, first_in_code, unit_with_site}
-use Rattle.guest_machine.proofs.StackActs.{still_in, top_registers}
-use Rattle.guest_machine.proofs.Stepping.{calls_code, calls_within, calling_code_keeps_registers, calling_within_keeps_registers, callers_are_counted}
+use Rattle.guest_stack.proofs.Positions.{layout_is_code, slot_is, slot_there, off_end, inlined_units_are_called, first_in_code, unit_with_site}
+use Rattle.guest_stack.proofs.StackActs.{still_in, top_registers}
+use Rattle.guest_stack.proofs.Stepping.{calls_code, calls_within, calling_code_keeps_registers, calling_within_keeps_registers, callers_are_counted}
 use Rattle.guest_machine.specs.Machine.{Acts, Advances, GiveNoReason, IsChild, IsInState, IsMachine, next_op, program_of, youngest_layout}
 use Rattle.guest_machine.specs.NeverOptimises.{NeverOptimises}
-use Rattle.guest_machine.specs.PlainMachine.{Frame, State, calls, ends}
-use Rattle.guest_machine.specs.Stack.{Stands, EachHasRegisters, first_frame, frame_at, called_code, called_within}
-use Rattle.guest_machine.specs.StackLaws.{IsInCode, IsAtSlot, IsPlaced}
-use Rattle.guest_machine.specs.declared.stack.CodeFrame.{CodeFrame}
-use Rattle.guest_machine.specs.declared.ended.Ended.TheVariants as end
+use Rattle.plain_machine.specs.PlainMachine.{Frame, State, calls, ends}
+use Rattle.guest_stack.specs.Stack.{Stands, EachHasRegisters, first_frame, frame_at, called_code, called_within}
+use Rattle.guest_stack.specs.Laws.{IsInCode, IsAtSlot, IsPlaced}
+use Rattle.guest_stack.specs.declared.stack.CodeFrame.{CodeFrame}
+use Rattle.plain_machine.specs.declared.ended.Ended.TheVariants as end
 use Rattle.guest_machine.specs.declared.machine.Machine.{Machine}
 
 -- what there is of an option

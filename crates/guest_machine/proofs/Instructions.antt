@@ -11,11 +11,11 @@ use Rattle.guest_program.specs.declared.instr.Instr.{Instr}
 use Rattle.code_event.specs.declared.layout.Slot.{Slot}
 use Rattle.code_event.specs.declared.layout.Unit.{Unit as CodeUnit}
 use Rattle.code_layout.specs.Laws.{func_at, IsSlotOf}
-use Rattle.guest_machine.proofs.Positions.{slot_is, func_within}
+use Rattle.guest_stack.proofs.Positions.{slot_is, func_within}
 use Rattle.guest_machine.proofs.Quiet.{never_at}
 use Rattle.guest_machine.specs.Machine.{IsMachine, body_at, next_op, op_of, program_of, youngest_layout}
 use Rattle.guest_machine.specs.NeverOptimises.{LeavesCodePlain}
-use Rattle.guest_machine.specs.StackLaws.{IsAtSlot}
+use Rattle.guest_stack.specs.Laws.{IsAtSlot}
 use Rattle.guest_machine.specs.declared.machine.Machine.{Machine}
 
 -- an instruction of a program fits

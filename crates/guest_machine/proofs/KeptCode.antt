@@ -15,11 +15,11 @@ use Rattle.code_objects.specs.CodeObjects.{CodeParts, LieAt, start_at}
 use Rattle.code_objects.specs.declared.name.CodeName.{CodeName}
 use Rattle.guest_machine.specs.Machine.{Acts, Advances, GiveNoReason, IsInState, IsMachine}
 use Rattle.guest_machine.specs.NeverOptimises.{NeverOptimises}
-use Rattle.guest_machine.specs.PlainMachine.{Frame, State}
-use Rattle.guest_machine.specs.Stack.{Stands, EachHasRegisters}
-use Rattle.guest_machine.specs.StackLaws.{IsInCode, IsPlaced}
+use Rattle.plain_machine.specs.PlainMachine.{Frame, State}
+use Rattle.guest_stack.specs.Stack.{Stands, EachHasRegisters}
+use Rattle.guest_stack.specs.Laws.{IsInCode, IsPlaced}
 use Rattle.guest_machine.specs.declared.machine.Machine.{Machine}
-use Rattle.guest_machine.specs.declared.stack.CodeFrame.{CodeFrame}
+use Rattle.guest_stack.specs.declared.stack.CodeFrame.{CodeFrame}
 
 -- an act that leaves the code as it is raises no event
 pub quiet_acts : (old new : Machine) (change : State → Frame → List Frame → State) → IsMachine new → new.code ≡ old.code → Advances old new change → Acts old new [] change

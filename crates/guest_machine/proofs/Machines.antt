@@ -10,15 +10,15 @@ use Rattle.code_event.specs.declared.tick.VmState.{VmState}
 use Rattle.code_event.proofs.Disjoint.{always_disjoint}
 use Rattle.code_objects.specs.CodeObjects.{start_at}
 use Rattle.code_objects.specs.declared.name.CodeName.{CodeName}
-use Rattle.guest_machine.proofs.StackIsPlain.{stack_is_plain}
-use Rattle.guest_machine.proofs.Stepping.{frames_are_few}
+use Rattle.guest_stack.proofs.StackIsPlain.{stack_is_plain}
+use Rattle.guest_stack.proofs.Stepping.{frames_are_few}
 use Rattle.guest_machine.specs.Machine.{IsMachine, Reflects, program_of}
-use Rattle.guest_machine.specs.PlainFrames.{plain_frames}
-use Rattle.guest_machine.specs.PlainMachine.{plain}
-use Rattle.guest_machine.specs.Stack.{addresses}
-use Rattle.guest_machine.specs.StackLaws.{IsInCode, IsPlaced}
+use Rattle.plain_machine.specs.PlainFrames.{plain_frames}
+use Rattle.plain_machine.specs.PlainMachine.{plain}
+use Rattle.guest_stack.specs.Stack.{addresses}
+use Rattle.guest_stack.specs.Laws.{IsInCode, IsPlaced}
 use Rattle.guest_machine.specs.declared.machine.Machine.{Machine}
-use Rattle.guest_machine.specs.declared.stack.CodeFrame.{CodeFrame}
+use Rattle.guest_stack.specs.declared.stack.CodeFrame.{CodeFrame}
 
 all_in_code : (funcs : List Func) (starts : CodeName → Option ℕ) (frames : List CodeFrame) → AllByRecursion (IsPlaced funcs starts) frames → AllByRecursion (IsInCode funcs) frames
 all_in_code funcs starts [] all = tt

@@ -16,11 +16,11 @@ use Rattle.guest_machine.proofs.Advancing.{stands_for}
 use Rattle.guest_machine.proofs.ActsDone.{there}
 use Rattle.guest_machine.proofs.Instructions.{next_is, instr_there, next_plain}
 use Rattle.guest_machine.proofs.Quiet.{does_code, gives_none_up}
-use Rattle.guest_machine.proofs.Stepping.{youngest_is_at_slot, stack_some}
+use Rattle.guest_stack.proofs.Stepping.{youngest_is_at_slot, stack_some}
 use Rattle.guest_machine.specs.Machine.{DoesOp, IsInState, IsMachine, Reflects, Steps, Waits, next_op, printed_text, program_of, youngest_layout}
-use Rattle.guest_machine.specs.PlainFrames.{reason_in, reasons_of}
-use Rattle.guest_machine.specs.PlainMachine.{Frame, State, does, deopts, gives_up, instr_of, is_js, js_gives_up, js_step, plain, step, wait_step}
-use Rattle.guest_machine.specs.Stack.{frame_at}
+use Rattle.plain_machine.specs.PlainFrames.{reason_in, reasons_of}
+use Rattle.plain_machine.specs.PlainMachine.{Frame, State, does, deopts, gives_up, instr_of, is_js, js_gives_up, js_step, plain, step, wait_step}
+use Rattle.guest_stack.specs.Stack.{frame_at}
 use Rattle.guest_machine.specs.declared.machine.Machine.{Machine}
 use Rattle.guest_machine.specs.declared.machine.StepDone.{StepDone}
 

@@ -11,8 +11,8 @@ use Rattle.guest_program.specs.declared.instr.Op.TheVariants as op
 use Rattle.code_event.specs.declared.tick.VmState.{VmState}
 use Rattle.code_event.specs.declared.tick.VmState.TheVariants.{Idle, Native, Gc}
 use Rattle.guest_machine.specs.NeverOptimises.{LeavesCodePlain, NeverOptimises}
-use Rattle.guest_machine.specs.PlainMachine.{State, Frame, ends, rises, with_register, register, sets, jumps, returns, waits, does, gives_up}
-use Rattle.guest_machine.specs.declared.ended.Ended.TheVariants as end
+use Rattle.plain_machine.specs.PlainMachine.{State, Frame, ends, rises, with_register, register, sets, jumps, returns, waits, does, gives_up}
+use Rattle.plain_machine.specs.declared.ended.Ended.TheVariants as end
 
 -- nothing was printed, and what is said of the functions' code is the same
 pub record IsQuiet (before after : State) : Type 0 where

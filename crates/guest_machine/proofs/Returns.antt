@@ -15,16 +15,16 @@ use Rattle.code_layout.proofs.Standing.{found_is_right}
 use Rattle.code_objects.specs.CodeObjects.{depth_of, layout_of, start_at}
 use Rattle.code_objects.specs.declared.name.CodeName.{CodeName}
 use Rattle.guest_machine.proofs.Advancing.{stands_for, ended_so}
-use Rattle.guest_machine.proofs.InBody.{body_short}
-use Rattle.guest_machine.proofs.Positions.{layout_is_code, slot_is, slot_there, in_end, off_end, slot_within, inlined_units_are_called, func_within, index_short}
-use Rattle.guest_machine.proofs.StackActs.{still_in, rises_below, rises_past, top_registers}
-use Rattle.guest_machine.proofs.Stepping.{returns_within, returns_to_frame, last_returns, returning_within_keeps_registers, returning_to_frame_keeps_registers}
+use Rattle.plain_machine.proofs.InBody.{body_short}
+use Rattle.guest_stack.proofs.Positions.{layout_is_code, slot_is, slot_there, in_end, off_end, slot_within, inlined_units_are_called, func_within, index_short}
+use Rattle.guest_stack.proofs.StackActs.{still_in, rises_below, rises_past, top_registers}
+use Rattle.guest_stack.proofs.Stepping.{returns_within, returns_to_frame, last_returns, returning_within_keeps_registers, returning_to_frame_keeps_registers}
 use Rattle.guest_machine.specs.Machine.{IsMachine, IsInState, IsNotInlined, Advances, program_of, youngest_layout}
-use Rattle.guest_machine.specs.PlainMachine.{Frame, State, rises, ends, returns, with_register, register}
-use Rattle.guest_machine.specs.Stack.{Physical, Stands, at_slot, returned_within, returned_to_caller}
-use Rattle.guest_machine.specs.StackLaws.{IsAtSlot, IsPlaced, ReturnsTo}
-use Rattle.guest_machine.specs.declared.stack.CodeFrame.{CodeFrame}
-use Rattle.guest_machine.specs.declared.ended.Ended.TheVariants as end
+use Rattle.plain_machine.specs.PlainMachine.{Frame, State, rises, ends, returns, with_register, register}
+use Rattle.guest_stack.specs.Stack.{Physical, Stands, at_slot, returned_within, returned_to_caller}
+use Rattle.guest_stack.specs.Laws.{IsAtSlot, IsPlaced, ReturnsTo}
+use Rattle.guest_stack.specs.declared.stack.CodeFrame.{CodeFrame}
+use Rattle.plain_machine.specs.declared.ended.Ended.TheVariants as end
 use Rattle.guest_machine.specs.declared.machine.Machine.{Machine}
 
 -- the list whose first element this is

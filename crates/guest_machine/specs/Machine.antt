@@ -20,11 +20,11 @@ use Rattle.code_layout.specs.Laws.{func_at}
 use Rattle.code_objects.specs.Changes.{RangesFollow}
 use Rattle.code_objects.specs.CodeObjects.{LieAt, layout_of, start_at}
 use Rattle.guest_machine.specs.NeverOptimises.{NeverOptimises}
-use Rattle.guest_machine.specs.PlainFrames.{reasons_of}
-use Rattle.guest_machine.specs.PlainMachine.{Frame, State, plain, ends, does, wait_step, step, deopts}
-use Rattle.guest_machine.specs.Stack.{Stands, EachHasRegisters, slot_of_frame}
-use Rattle.guest_machine.specs.StackLaws.{IsAtSlot, IsPlaced}
-use Rattle.guest_machine.specs.declared.ended.Ended.TheVariants as end
+use Rattle.plain_machine.specs.PlainFrames.{reasons_of}
+use Rattle.plain_machine.specs.PlainMachine.{Frame, State, plain, ends, does, wait_step, step, deopts}
+use Rattle.guest_stack.specs.Stack.{Stands, EachHasRegisters, slot_of_frame}
+use Rattle.guest_stack.specs.Laws.{IsAtSlot, IsPlaced}
+use Rattle.plain_machine.specs.declared.ended.Ended.TheVariants as end
 use Rattle.guest_machine.specs.declared.machine.Machine.{Machine}
 use Rattle.guest_machine.specs.declared.machine.StepDone.{StepDone}
 

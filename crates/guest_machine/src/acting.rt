@@ -1,11 +1,11 @@
 // What the youngest frame's instruction does.
 ghost use Rattle.std.specs.Prelude.{◌≡◌, ◌%◌, ◌^◌, ◌+◌, ◌-◌, ◌*◌, ◌∷◌, ◌++◌, ℕ, List, nat_lt, if◌then◌else◌};
 ghost use Rattle.guest_machine.specs.Machine.{Advances, IsInState, IsInYoungestBody, IsMachine, printed_text, program_of};
-ghost use Rattle.guest_machine.specs.PlainMachine.{Frame, State, does, ends, jumps, register, sets, waits};
-ghost use Rattle.guest_machine.specs.declared.ended.Ended.TheVariants as end;
+ghost use Rattle.plain_machine.specs.PlainMachine.{Frame, State, does, ends, jumps, register, sets, waits};
+ghost use Rattle.plain_machine.specs.declared.ended.Ended.TheVariants as end;
 ghost use Rattle.guest_program.specs.declared.instr.Op.TheVariants as op;
 
-use crate::ended::Ended;
+use plain_machine::Ended;
 use crate::machine::Machine;
 use code_event::VmState;
 use guest_program::Reg;

@@ -1,12 +1,12 @@
 // What a call does.
 ghost use Rattle.std.specs.Prelude.{◌≡◌, ◌<◌, length, option_to_list, ℕ, IfOk, IfSome, IsSome, OnOk};
 ghost use Rattle.guest_machine.specs.Machine.{Acts, IsChild, IsMachine, next_op, program_of};
-ghost use Rattle.guest_machine.specs.PlainMachine.{calls};
+ghost use Rattle.plain_machine.specs.PlainMachine.{calls};
 ghost use Rattle.guest_program.specs.declared.instr.Op.TheVariants as op;
 
-use crate::ended::Ended;
+use plain_machine::Ended;
 use crate::machine::Machine;
-use crate::stack::CodeFrame;
+use guest_stack::CodeFrame;
 use code_event::CodeEvent;
 use code_objects::{CodeKind, CodeName};
 use prof_base::{FuncId, Memory, Sequence};

@@ -3,10 +3,10 @@ ghost use Rattle.std.specs.Prelude.{◌≡◌, ◌<◌, ◌∷◌, false, IfOk, 
 ghost use Rattle.std.specs.List.{AllByRecursion, list_any};
 ghost use Rattle.code_objects.specs.Changes.{same_name};
 ghost use Rattle.guest_machine.specs.Machine.{Acts, IsMachine, program_of};
-ghost use Rattle.guest_machine.specs.PlainMachine.{rises};
+ghost use Rattle.plain_machine.specs.PlainMachine.{rises};
 
 use crate::machine::Machine;
-use crate::stack::CodeFrame;
+use guest_stack::CodeFrame;
 use code_event::CodeEvent;
 use code_objects::{CodeKind, CodeName};
 use prof_base::{FuncId, Memory, Sequence};

@@ -6,12 +6,12 @@ ghost use Rattle.code_event.specs.declared.event.CodeEvent.{CodeEvent};
 ghost use Rattle.code_objects.specs.CodeObjects.{start_at};
 ghost use Rattle.guest_machine.specs.Machine.{IsMachine, Reflects, printed_text, program_of};
 ghost use Rattle.guest_machine.specs.NeverOptimises.{NeverOptimises};
-ghost use Rattle.guest_machine.specs.PlainFrames.{plain_frames};
-ghost use Rattle.guest_machine.specs.PlainMachine.{plain, deopts};
-ghost use Rattle.guest_machine.specs.Stack.{address, addresses};
+ghost use Rattle.plain_machine.specs.PlainFrames.{plain_frames};
+ghost use Rattle.plain_machine.specs.PlainMachine.{plain, deopts};
+ghost use Rattle.guest_stack.specs.Stack.{address, addresses};
 
-use crate::ended::Ended;
-use crate::stack::Stack;
+use plain_machine::Ended;
+use guest_stack::Stack;
 use code_event::{CodeEvent, Frames, SLOT_SIZE, VmState};
 use code_objects::{CodeKind, CodeName, CodeObjects};
 use guest_program::Program;

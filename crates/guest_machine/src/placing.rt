@@ -5,12 +5,12 @@ ghost use Rattle.code_event.specs.declared.layout.TheConstants.{SLOT_SIZE};
 ghost use Rattle.code_layout.specs.Laws.{func_at, slot_of};
 ghost use Rattle.code_objects.specs.CodeObjects.{layout_of, start_at};
 ghost use Rattle.guest_machine.specs.Machine.{IsMachine, Rises, next_op, program_of, youngest_layout};
-ghost use Rattle.guest_machine.specs.Stack.{address};
-ghost use Rattle.guest_machine.specs.StackLaws.{IsAtSlot, IsPlaced};
+ghost use Rattle.guest_stack.specs.Stack.{address};
+ghost use Rattle.guest_stack.specs.Laws.{IsAtSlot, IsPlaced};
 
-use crate::ended::Ended;
+use plain_machine::Ended;
 use crate::machine::Machine;
-use crate::stack::CodeFrame;
+use guest_stack::CodeFrame;
 use code_event::{Layout, SLOT_SIZE, Site, Slot};
 use code_space::SPACE_END;
 use guest_program::Op;

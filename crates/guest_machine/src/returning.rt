@@ -1,9 +1,9 @@
 // What a return does.
 ghost use Rattle.std.specs.Prelude.{◌≡◌, slice_index};
 ghost use Rattle.guest_machine.specs.Machine.{Advances, IsMachine, IsNotInlined, program_of};
-ghost use Rattle.guest_machine.specs.PlainMachine.{returns};
+ghost use Rattle.plain_machine.specs.PlainMachine.{returns};
 
-use crate::ended::Ended;
+use plain_machine::Ended;
 use crate::machine::Machine;
 use guest_program::Reg;
 

@@ -9,7 +9,7 @@ use Rattle.std.proofs.lemmas.List.{append_assoc, append-nil}
 use Rattle.prof_base.specs.Ordered.{insert_sorted}
 use Rattle.prof_base.proofs.Ordered.{Has, has_from_contains, contains_from_has}
 use Rattle.guest_program.specs.declared.instr.Func.{Func}
-use Rattle.guest_machine.specs.PlainMachine.{deopts}
+use Rattle.plain_machine.specs.PlainMachine.{deopts}
 use Rattle.code_event.specs.FileLaws.{AreStoppedWhileRunning}
 use Rattle.code_event.specs.ItemFile.{ends, ends_behind}
 use Rattle.code_event.specs.ItemList.{without}

@@ -5,9 +5,9 @@ use Rattle.std.specs.Prelude.{Option, Some, None}
 use Rattle.guest_program.specs.declared.instr.Func.{Func}
 use Rattle.code_event.specs.declared.event.Mode.TheVariants.{Leaf}
 use Rattle.code_event.specs.declared.event.Options.{Options}
-use Rattle.guest_machine.specs.PlainMachine.{plain}
-use Rattle.guest_machine.specs.declared.ended.Ended.{Ended}
-use Rattle.guest_machine.specs.declared.ended.Ended.TheVariants as ended
+use Rattle.plain_machine.specs.PlainMachine.{plain}
+use Rattle.plain_machine.specs.declared.ended.Ended.{Ended}
+use Rattle.plain_machine.specs.declared.ended.Ended.TheVariants as ended
 use Rattle.isolate.proofs.Going.{going_before}
 use Rattle.isolate.specs.Fits.{IsGoing, EndsAt}
 use Rattle.record_text.specs.declared.schedule.EndCause.{EndCause}

@@ -14,7 +14,7 @@ use Rattle.code_event.specs.Profile.{finished_of}
 use Rattle.code_event.specs.Seen.{Seen, finished}
 use Rattle.code_event.specs.declared.event.Options.{Options}
 use Rattle.code_event.specs.declared.profile.Finished.{Finished}
-use Rattle.guest_machine.specs.PlainMachine.{plain, main_of}
+use Rattle.plain_machine.specs.PlainMachine.{plain, main_of}
 use Rattle.isolate.specs.Fits.{IsGoing}
 use Rattle.isolate.specs.PlainFile.{tick_at, seen_run, seen_behind}
 use Rattle.prof_base.proofs.Ordered.{contains_from_has}

@@ -6,7 +6,7 @@ use Rattle.std.proofs.lemmas.List.{length-append}
 use Rattle.std.specs.Prelude.{true, false, take, nat_le, if◌then◌else◌}
 use Rattle.guest_program.specs.declared.instr.Func.{Func}
 use Rattle.code_event.specs.declared.event.Options.{Options}
-use Rattle.guest_machine.specs.PlainMachine.{plain}
+use Rattle.plain_machine.specs.PlainMachine.{plain}
 use Rattle.isolate.specs.Fits.{IsGoing}
 use Rattle.record_text.specs.ScheduleParts.{ScheduleParts}
 use Rattle.record_text.specs.declared.schedule.EndCause.TheVariants as cause

@@ -18,8 +18,8 @@ use Rattle.code_event.specs.declared.entry.Entry.{Entry}
 use Rattle.code_event.specs.declared.event.Options.{Options}
 use Rattle.code_layout.specs.Layouts.{entry_of}
 use Rattle.cpuprofile.specs.Given.{HasExactTime}
-use Rattle.guest_machine.specs.PlainMachine.{plain, deopts, plain_code}
-use Rattle.guest_machine.specs.PlainFrames.{reason_in, reasons_of}
+use Rattle.plain_machine.specs.PlainMachine.{plain, deopts, plain_code}
+use Rattle.plain_machine.specs.PlainFrames.{reason_in, reasons_of}
 use Rattle.isolate.specs.PlainFile.{tick_at, given_up, given_up_for, seen_of, seen_behind}
 use Rattle.prof_base.specs.Interval.{rounded_of}
 use Rattle.record_text.specs.Schedule.{Course, Running, none_yet, course_after, course_on}

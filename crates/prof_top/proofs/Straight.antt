@@ -11,9 +11,9 @@ use Rattle.guest_program.specs.declared.instr.Instr.{Instr}
 use Rattle.guest_program.specs.declared.instr.Op.{Op}
 use Rattle.guest_program.specs.declared.instr.Op.TheVariants as op
 use Rattle.code_event.specs.declared.tick.VmState.TheVariants.{Js}
-use Rattle.guest_machine.proofs.InBody.{got}
-use Rattle.guest_machine.specs.PlainMachine.{State, Frame, main_of, plain, step, ends, with_register, does, instr_of, js_step, is_js, wait_step, gives_up, js_gives_up, deopts, zeros}
-use Rattle.guest_machine.specs.declared.ended.Ended.TheVariants as end
+use Rattle.plain_machine.proofs.InBody.{got}
+use Rattle.plain_machine.specs.PlainMachine.{State, Frame, main_of, plain, step, ends, with_register, does, instr_of, js_step, is_js, wait_step, gives_up, js_gives_up, deopts, zeros}
+use Rattle.plain_machine.specs.declared.ended.Ended.TheVariants as end
 
 -- the one frame of `main`, in state Js
 record IsLone (funcs : List Func) (state : State) : Type 0 where

@@ -10,7 +10,7 @@ use Rattle.code_event.specs.Seen.{Seen, started}
 use Rattle.code_event.specs.declared.event.Options.{Options}
 use Rattle.code_event.specs.declared.profile.Finished.{Finished}
 use Rattle.cpuprofile.specs.Given.{DeltasFit}
-use Rattle.guest_machine.specs.PlainMachine.{plain, main_of}
+use Rattle.plain_machine.specs.PlainMachine.{plain, main_of}
 use Rattle.isolate.specs.Fits.{IsGoing}
 use Rattle.isolate.specs.PlainFile.{tick_at, seen_run, plain_files}
 use Rattle.record_text.specs.ScheduleParts.{ScheduleParts}

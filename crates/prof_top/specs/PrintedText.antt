@@ -1,7 +1,7 @@
 -- What is printed of a run, and of a folded item list.
 use Rattle.std.specs.Prelude.{ℕ, List, [], ◌∷◌, ◌++◌, length, flat_map, count_by, Bool, true, false, not, codes, decimal}
 use Rattle.guest_program.specs.declared.instr.Func.{Func}
-use Rattle.guest_machine.specs.PlainMachine.{plain}
+use Rattle.plain_machine.specs.PlainMachine.{plain}
 use Rattle.item_fold.specs.declared.delivery.FileNote.{FileNote}
 use Rattle.code_event.specs.ItemFile.{SessionFile}
 use Rattle.code_event.specs.declared.tick.Item.{Item}

@@ -3,8 +3,8 @@ use Rattle.std.specs.Prelude.{◌≡◌, ℕ, List, [], ◌∷◌, map, Bool, So
 use Rattle.std.specs.List.{slice_get}
 use Rattle.guest_program.specs.declared.instr.Func.{Func}
 use Rattle.code_event.specs.declared.tick.VmState.TheVariants.{Js}
-use Rattle.guest_machine.specs.PlainMachine.{State, plain, plain_code, main_of}
-use Rattle.guest_machine.specs.declared.ended.Ended.TheVariants.{Halt}
+use Rattle.plain_machine.specs.PlainMachine.{State, plain, plain_code, main_of}
+use Rattle.plain_machine.specs.declared.ended.Ended.TheVariants.{Halt}
 
 -- one frame of `main`, at this index and with these registers; nothing else has happened, except perhaps the halt
 abbrev pub straight_state : List Func → ℕ → List ℕ → Bool → State

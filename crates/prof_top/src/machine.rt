@@ -2,9 +2,9 @@
 ghost use Rattle.std.specs.Prelude.{◌≡◌, ◌<◌, ◌≤◌, ℕ, List, length, false, suc, IfOk};
 ghost use Rattle.guest_text.specs.Straight.{IsStraight, IsStraightBody};
 ghost use Rattle.guest_program.specs.declared.instr.Func.{Func};
-ghost use Rattle.guest_machine.specs.PlainMachine.{plain};
+ghost use Rattle.plain_machine.specs.PlainMachine.{plain};
 ghost use Rattle.code_layout.specs.Layouts.{entry_of};
-ghost use Rattle.guest_machine.specs.PlainFrames.{plain_frames};
+ghost use Rattle.plain_machine.specs.PlainFrames.{plain_frames};
 ghost use Rattle.prof_top.specs.Straight.{IsAfter};
 
 use code_event::{Entry, ResolvedFrame};

@@ -1,6 +1,6 @@
 use Rattle.std.proofs.Common.{ap}
 use Rattle.std.proofs.lemmas.Result.{IfOk-weaker}
-use Rattle.guest_machine.specs.PlainMachine.{is_js}
+use Rattle.plain_machine.specs.PlainMachine.{is_js}
 use Rattle.guest_machine.proofs.PlainSteps.{js_done, wait_done}
 use Rattle.guest_machine.proofs.machine.Machine.advance.Goals as goal
 

@@ -4,7 +4,7 @@ use Rattle.code_layout.specs.Laws.{site_at}
 use Rattle.guest_machine.proofs.Advancing.{youngest_at}
 use Rattle.guest_machine.proofs.Calls.{child_read, child_follows, child_is_next, not_elsewhere}
 use Rattle.guest_machine.specs.Machine.{program_of, youngest_layout}
-use Rattle.guest_machine.specs.declared.stack.CodeFrame.{CodeFrame}
+use Rattle.guest_stack.specs.declared.stack.CodeFrame.{CodeFrame}
 use Rattle.guest_machine.proofs.machine.Machine.child.Goals as goal
 
 pub returns-then-site-slot-2-clause-child : goal.returns-then-site-slot-2-clause-child

@@ -2,7 +2,7 @@ use Rattle.std.proofs.Common.{ap, sym, subst}
 use Rattle.code_space.specs.Compaction.{compacted, moves_between}
 use Rattle.code_space.specs.declared.range.TheConstants.{FIRST_ADDRESS}
 use Rattle.guest_machine.specs.Machine.{Acts, program_of}
-use Rattle.guest_machine.specs.PlainMachine.{rises}
+use Rattle.plain_machine.specs.PlainMachine.{rises}
 use Rattle.guest_machine.proofs.Advancing.{has_passed}
 use Rattle.guest_machine.proofs.KeptCode.{quiet_acts, compacted_acts}
 use Rattle.guest_machine.proofs.machine.Machine.collect.Goals as goal

@@ -1,6 +1,6 @@
 use Rattle.std.specs.Prelude.{nat_lt, if◌then◌else◌}
 use Rattle.guest_machine.proofs.Advancing.{register_read, less_value, not_less_value}
-use Rattle.guest_machine.specs.PlainMachine.{register}
+use Rattle.plain_machine.specs.PlainMachine.{register}
 use Rattle.guest_machine.proofs.machine.Machine.compare.Goals as goal
 
 pub returns-then-register-clause-does : goal.returns-then-register-clause-does

@@ -2,7 +2,7 @@ use Rattle.std.proofs.Common.{ap, ◌∙◌, ◌++◌, ◌∷◌, sym, subst, []
 use Rattle.code_objects.specs.Changes.{RangesFollow}
 use Rattle.code_objects.specs.CodeObjects.{plain_name}
 use Rattle.guest_machine.specs.Machine.{Acts, program_of}
-use Rattle.guest_machine.specs.PlainMachine.{rises}
+use Rattle.plain_machine.specs.PlainMachine.{rises}
 use Rattle.guest_machine.proofs.Advancing.{has_passed}
 use Rattle.guest_machine.proofs.KeptCode.{quiet_acts, freed_acts}
 use Rattle.guest_machine.proofs.machine.Machine.drop_code.Goals as goal

@@ -3,7 +3,7 @@ use Rattle.code_event.specs.CodeMap.{ranges}
 use Rattle.code_event.specs.Symbolizer.{frames_over}
 use Rattle.code_event.specs.declared.layout.TheConstants.{SLOT_SIZE}
 use Rattle.code_objects.specs.CodeObjects.{start_at}
-use Rattle.guest_machine.specs.Stack.{address}
+use Rattle.guest_stack.specs.Stack.{address}
 use Rattle.guest_machine.proofs.Machines.{frames_read, frames_few}
 use Rattle.guest_machine.proofs.machine.Machine.frames.Goals as goal
 

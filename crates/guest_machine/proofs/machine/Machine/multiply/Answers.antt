@@ -1,6 +1,6 @@
 use Rattle.std.proofs.Common.{ap₂, ◌*◌, ◌%◌, ◌^◌}
 use Rattle.guest_machine.proofs.Advancing.{register_read}
-use Rattle.guest_machine.specs.PlainMachine.{register}
+use Rattle.plain_machine.specs.PlainMachine.{register}
 use Rattle.guest_machine.proofs.machine.Machine.multiply.Goals as goal
 
 pub returns-clause-does : goal.returns-clause-does

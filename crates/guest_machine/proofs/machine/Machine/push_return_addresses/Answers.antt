@@ -4,8 +4,8 @@ use Rattle.std.specs.Prelude.{reverse}
 use Rattle.code_event.specs.declared.layout.TheConstants.{SLOT_SIZE}
 use Rattle.code_objects.specs.CodeObjects.{start_at}
 use Rattle.guest_machine.specs.Machine.{program_of}
-use Rattle.guest_machine.specs.Stack.{address}
-use Rattle.guest_machine.specs.StackLaws.{IsPlaced}
+use Rattle.guest_stack.specs.Stack.{address}
+use Rattle.guest_stack.specs.Laws.{IsPlaced}
 use Rattle.guest_machine.proofs.Addresses.{one_listed, none_left, has_room, all_last, total_length}
 use Rattle.guest_machine.proofs.machine.Machine.push_return_addresses.Goals as goal
 

@@ -1,6 +1,6 @@
 use Rattle.std.proofs.Common.{◌≡◌, ◌<◌, ap, ap₂, ◌+◌, ◌-◌, ◌%◌, ◌^◌, ◌∙◌, ℕ, arith}
 use Rattle.guest_machine.proofs.Advancing.{register_read}
-use Rattle.guest_machine.specs.PlainMachine.{register}
+use Rattle.plain_machine.specs.PlainMachine.{register}
 use Rattle.guest_machine.proofs.machine.Machine.subtract.Goals as goal
 
 same_difference : (a b : ℕ) → b < 2 ^ 64 → a + (2 ^ 64 - b) ≡ a + 2 ^ 64 - b

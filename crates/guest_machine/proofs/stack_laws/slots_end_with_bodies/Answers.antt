@@ -1,5 +1,0 @@
-use Rattle.guest_machine.proofs.Positions.{slots_end_with_bodies}
-use Rattle.guest_machine.proofs.stack_laws.slots_end_with_bodies.Goals as goal
-
-pub returns : goal.returns
-returns c = slots_end_with_bodies

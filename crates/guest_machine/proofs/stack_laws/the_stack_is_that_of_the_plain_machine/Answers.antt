@@ -1,5 +1,0 @@
-use Rattle.guest_machine.proofs.StackIsPlain.{stack_is_plain}
-use Rattle.guest_machine.proofs.stack_laws.the_stack_is_that_of_the_plain_machine.Goals as goal
-
-pub returns : goal.returns
-returns c = stack_is_plain

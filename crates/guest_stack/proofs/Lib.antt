@@ -1,0 +1,6 @@
+pub mod Positions
+pub mod Reading
+pub mod Stepping
+pub mod GivingUp
+pub mod StackIsPlain
+pub mod StackActs

@@ -1,0 +1,4 @@
+pub mod PlainMachine
+pub mod PlainFrames
+pub mod Examples
+pub mod Laws
