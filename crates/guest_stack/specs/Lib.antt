@@ -1,3 +1,4 @@
 pub mod Stack
+pub mod GivingUp
 pub mod Examples
 pub mod Laws

@@ -3,6 +3,7 @@
 #![tactic(auto)]
 
 pub mod examples;
+mod giving_up;
 pub mod laws;
 mod stack;
 

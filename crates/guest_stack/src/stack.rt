@@ -1,5 +1,5 @@
 // The physical stack: frames in code, and the registers of the functions that they stand for.
-ghost use Rattle.std.specs.Prelude.{◌≡◌, reverse, slice_index, slice_set, length, OnOk, OnErr};
+ghost use Rattle.std.specs.Prelude.{◌≡◌, ◌≤◌, ◌∷◌, reverse, slice_index, slice_set, length, OnOk, OnErr};
 ghost use Rattle.std.specs.List.{slice_get};
 ghost use Rattle.guest_stack.specs.Stack.{begun, gone_on, called_within, called_code, returned_within, returned_to_caller};
 
@@ -90,6 +90,21 @@ impl Stack {
         ensures { self.new ≡ record self.old { registers = slice_set self.old.registers register number } }
     {
         self.registers[usize::from(register.number())] = number;
+    }
+
+    /// Replaces the frames by these, the oldest first, of which there is at least one. Each function
+    /// keeps its registers.
+    pub(crate) fn replace_frames(&mut self, frames: Vec<CodeFrame>)
+        requires { 1 ≤ length frames.items }
+        ensures frames { self.new.frame ∷ self.new.callers ≡ reverse frames.items }
+        ensures registers { self.new.registers ≡ self.old.registers }
+        ensures saved { self.new.saved ≡ self.old.saved }
+    {
+        let mut callers = frames;
+        if let Some(frame) = callers.pop() {
+            self.frame = frame;
+            self.callers = callers;
+        }
     }
 
     /// Puts the youngest frame at another slot of its code.
