@@ -10,6 +10,7 @@ use Rattle.code_event.specs.declared.tick.VmState.{VmState}
 use Rattle.code_layout.specs.Laws.{slot_of}
 use Rattle.code_layout.proofs.Standing.{found_is_right}
 use Rattle.code_objects.specs.CodeObjects.{depth_of, layout_of}
+use Rattle.guest_machine.proofs.Said.{said_kept}
 use Rattle.guest_stack.proofs.StackActs.{unit_there, index_is, goes_to, is_below, is_past, still_in, registers_set, top_registers, rises_below, rises_past}
 use Rattle.guest_stack.proofs.Positions.{layout_is_code, slot_in_body, index_short}
 use Rattle.guest_stack.proofs.Stepping.{going_on_keeps_registers}
@@ -48,11 +49,11 @@ slot_short machine whole slot at = index_short (program_of machine) machine.stac
 
 -- it has ended so, and nothing else has changed
 pub ended_so : (old new : Machine) (how : Ended) (state : State) → IsInState old state → new ≡ record old { ended = Some how } → IsInState new (ends how state)
-ended_so old new how state is new_is = subst (λ m. IsInState m (ends how state)) (sym new_is) (record { stack = is.stack; engine = is.engine; rest = is.rest; ended = refl })
+ended_so old new how state is new_is = subst (λ m. IsInState m (ends how state)) (sym new_is) (record { stack = is.stack; codes = said_kept old (record old { ended = Some how }) state (ends how state) refl refl refl is.codes; engine = is.engine; rest = is.rest; ended = refl })
 
 pub whole_ended : (old new : Machine) (how : Ended) → IsMachine old → new ≡ record old { ended = Some how } → IsMachine new
 whole_ended old new how machine new_is =
-    subst IsMachine (sym new_is) (record { program = machine.program; never = machine.never; placed = machine.placed; registers = machine.registers; few = machine.few })
+    subst IsMachine (sym new_is) (record { program = machine.program; placed = machine.placed; registers = machine.registers; few = machine.few; flags = machine.flags })
 
 -- The youngest frame at its slot.
 module _ (old : Machine) (machine : IsMachine old) (slot : Slot) (at : IsAtSlot (program_of old) old.stack.frame slot) where
@@ -62,6 +63,7 @@ module _ (old : Machine) (machine : IsMachine old) (slot : Slot) (at : IsAtSlot 
   gone new index place found new_is state frame callers is stack_is =
       subst (λ m. IsInState m (jumps state frame callers index)) (sym new_is) (record {
         stack = goes_to (program_of old) old.stack slot machine.program machine.placed.0.code at frame callers (stands_for old state frame callers is stack_is) index place found;
+        codes = said_kept old (record old { stack = gone_on place old.stack.registers old.stack }) state (jumps state frame callers index) refl refl refl is.codes;
         engine = is.engine;
         rest = is.rest;
         ended = is.ended;
@@ -94,7 +96,6 @@ module _ (old : Machine) (machine : IsMachine old) (slot : Slot) (at : IsAtSlot 
   whole_gone new index place found new_is =
       subst IsMachine (sym new_is) (record {
         program = machine.program;
-        never = machine.never;
         placed = (
           record {
             code = still_in (program_of old) old.stack slot machine.program machine.placed.0.code at slot.unit index place found;
@@ -104,6 +105,7 @@ module _ (old : Machine) (machine : IsMachine old) (slot : Slot) (at : IsAtSlot 
         );
         registers = going_on_keeps_registers (program_of old) old.stack slot index place old.stack.registers machine.registers at (found_is_right (youngest_layout old) slot.unit index place found);
         few = machine.few;
+        flags = machine.flags;
       })
 
 -- Where a step goes on, and where it runs off the body, for a change of the state and of the frame that keeps the frame's function and index.
@@ -141,6 +143,7 @@ has_set old mid new to number n number_is has new_is =
     let after : State = record state { stack = record (with_register frame to (n frame)) { index = suc frame.index } ∷ callers } in
     subst (λ m. IsInState m after) (sym new_is) (record {
       stack = subst (λ rs. Stands (program_of mid) (record mid.stack { registers = slice_set mid.stack.registers to number }) (record risen_frame { registers = rs } ∷ callers)) value set;
+      codes = said_kept mid (record mid { stack = record mid.stack { registers = slice_set mid.stack.registers to number } }) (record state { stack = risen_frame ∷ callers }) after refl refl refl mid_is.codes;
       engine = mid_is.engine;
       rest = mid_is.rest;
       ended = mid_is.ended;
@@ -151,7 +154,7 @@ has_not_set old new to n has = went_off old new (λ state frame. state) (λ fram
 
 pub whole_set : (mid new : Machine) (registers : List ℕ) → IsMachine mid → new ≡ record mid { stack = record mid.stack { registers = registers } } → IsMachine new
 whole_set mid new registers machine new_is =
-    subst IsMachine (sym new_is) (record { program = machine.program; never = machine.never; placed = machine.placed; registers = machine.registers; few = machine.few })
+    subst IsMachine (sym new_is) (record { program = machine.program; placed = machine.placed; registers = machine.registers; few = machine.few; flags = machine.flags })
 
 -- the engine is in another state
 pub has_waited : (old mid new : Machine) (engine : VmState) (steps : ℕ) → HasRisen old mid → new ≡ record mid { state = engine; rest = steps }
@@ -160,14 +163,14 @@ has_waited old mid new engine steps has new_is =
     went_on old new (λ state frame. record state { state = engine; rest = steps }) (λ frame. frame) (λ f. refl) (λ f. refl) mid has
     (λ state frame callers is stack_is mid_is.
     let after : State = record state { state = engine; rest = steps; stack = record frame { index = suc frame.index } ∷ callers } in
-    subst (λ m. IsInState m after) (sym new_is) (record { stack = mid_is.stack; engine = refl; rest = refl; ended = mid_is.ended }))
+    subst (λ m. IsInState m after) (sym new_is) (record { stack = mid_is.stack; codes = said_kept mid (record mid { state = engine; rest = steps }) (record state { stack = record frame { index = suc frame.index } ∷ callers }) after refl refl refl mid_is.codes; engine = refl; rest = refl; ended = mid_is.ended }))
 
 pub has_not_waited : (old new : Machine) (engine : VmState) (steps : ℕ) → HasRunOff old new → Advances old new (λ state frame callers. waits (program_of old) state frame callers engine steps)
 has_not_waited old new engine steps has = went_off old new (λ state frame. record state { state = engine; rest = steps }) (λ frame. frame) (λ f. refl) (λ f. refl) has
 
 pub whole_waiting : (mid new : Machine) (engine : VmState) (steps : ℕ) → IsMachine mid → new ≡ record mid { state = engine; rest = steps } → IsMachine new
 whole_waiting mid new engine steps machine new_is =
-    subst IsMachine (sym new_is) (record { program = machine.program; never = machine.never; placed = machine.placed; registers = machine.registers; few = machine.few })
+    subst IsMachine (sym new_is) (record { program = machine.program; placed = machine.placed; registers = machine.registers; few = machine.few; flags = machine.flags })
 
 -- the printed text of a state in which a number has been printed
 abbrev pub after_print : ℕ → State → Frame → State
@@ -176,7 +179,10 @@ after_print from state frame = record state { printed = state.printed ++ decimal
 pub has_printed : (old new : Machine) (from : ℕ) → HasRisen old new → Advances old new (λ state frame callers. rises (program_of old) state (after_print from state frame) frame callers)
 has_printed old new from has =
     went_on old new (after_print from) (λ frame. frame) (λ f. refl) (λ f. refl) new has
-    (λ state frame callers is stack_is mid_is. record { stack = mid_is.stack; engine = mid_is.engine; rest = mid_is.rest; ended = mid_is.ended })
+    (λ state frame callers is stack_is mid_is.
+    let risen : State = record state { stack = record frame { index = suc frame.index } ∷ callers } in
+    let after : State = record (after_print from state frame) { stack = record frame { index = suc frame.index } ∷ callers } in
+    record { stack = mid_is.stack; codes = said_kept new new risen after refl refl refl mid_is.codes; engine = mid_is.engine; rest = mid_is.rest; ended = mid_is.ended })
 
 pub has_not_printed : (old new : Machine) (from : ℕ) → HasRunOff old new → Advances old new (λ state frame callers. rises (program_of old) state (after_print from state frame) frame callers)
 has_not_printed old new from has = went_off old new (after_print from) (λ frame. frame) (λ f. refl) (λ f. refl) has

@@ -24,12 +24,12 @@ use Rattle.code_objects.specs.CodeObjects.{CodeParts, depth_of, layout_of, start
 use Rattle.code_objects.specs.declared.name.CodeName.{CodeName}
 use Rattle.code_objects.proofs.Keeping.{same_name_true}
 use Rattle.guest_machine.proofs.Advancing.{stands_for, ended_so, whole_ended}
+use Rattle.guest_machine.proofs.Said.{SameOptimised, said_still}
 use Rattle.guest_machine.proofs.Instructions.{next_is}
 use Rattle.guest_stack.proofs.Positions.{layout_is_code, slot_is, slot_there, off_end, inlined_units_are_called, first_in_code, unit_with_site}
 use Rattle.guest_stack.proofs.StackActs.{still_in, top_registers}
 use Rattle.guest_stack.proofs.Stepping.{calls_code, calls_within, calling_code_keeps_registers, calling_within_keeps_registers, callers_are_counted}
 use Rattle.guest_machine.specs.Machine.{Acts, Advances, GiveNoReason, IsChild, IsInState, IsMachine, next_op, program_of, youngest_layout}
-use Rattle.guest_machine.specs.NeverOptimises.{NeverOptimises}
 use Rattle.plain_machine.specs.PlainMachine.{Frame, State, calls, ends}
 use Rattle.guest_stack.specs.Stack.{Stands, EachHasRegisters, first_frame, frame_at, called_code, called_within}
 use Rattle.guest_stack.specs.Laws.{IsInCode, IsAtSlot, IsPlaced}
@@ -63,9 +63,10 @@ module _ (old : Machine) (whole : IsMachine old) (func : ℕ) where
 
   -- the new frame stands for the function that is called
   pub entered : (new : Machine) → length old.stack.saved < 254 → new.state ≡ old.state → new.rest ≡ old.rest → new.ended ≡ old.ended
+      → program_of new ≡ program_of old → SameOptimised old.code new.code → new.disabled ≡ old.disabled
       → ((frame : Frame) (callers : List Frame) → Stands (program_of old) old.stack (frame ∷ callers) → Stands (program_of new) new.stack (frame_at (func, 0) old.stack.registers ∷ frame ∷ callers))
       → Advances old new (λ state frame callers. calls state frame callers func)
-  entered new room engine rest ended stands_so state frame callers is stack_is =
+  entered new room engine rest ended program optimised disabled stands_so state frame callers is stack_is =
       let size = counted state frame callers is stack_is in
       let stands = stands_for old state frame callers is stack_is in
       let own : frame.registers ≡ old.stack.registers = top_registers (program_of old) old.stack frame callers stands in
@@ -73,6 +74,7 @@ module _ (old : Machine) (whole : IsMachine old) (func : ℕ) where
       let gives : calls state frame callers func ≡ after = cond-true (nat_lt (length callers) 254) after (ends end.Overflow state) (lt-ltb (length callers) 254 (omega (arith, size, room))) in
       subst (IsInState new) (sym gives) (record {
         stack = subst (λ rs. Stands (program_of new) new.stack (frame_at (func, 0) rs ∷ frame ∷ callers)) (sym own) (stands_so frame callers stands);
+        codes = said_still old new state (record state { stack = frame_at (func, 0) frame.registers ∷ frame ∷ callers }) program optimised disabled refl is.codes;
         engine = engine ∙ is.engine;
         rest = rest ∙ is.rest;
         ended = ended ∙ is.ended;
@@ -98,7 +100,8 @@ module _ (old : Machine) (whole : IsMachine old) (func : ℕ) where
 
 -- A call in a frame of its own. All code that was there is there still, and so is that of the function that is called.
 module _ (old : Machine) (whole : IsMachine old) (code : CodeParts) (name : CodeName) (known : name.func.0 < length (program_of old)) (room : length old.stack.saved < 254)
-    (funcs_are : code.funcs ≡ program_of old) (there : HasCode code name) (stays : (other : CodeName) → HasCode old.code other → HasCode code other) where
+    (funcs_are : code.funcs ≡ program_of old) (there : HasCode code name) (stays : (other : CodeName) → HasCode old.code other → HasCode code other)
+    (optimised_are : SameOptimised old.code code) where
   abbrev called_machine : Machine
   called_machine = record old { code = code; stack = called_code (first_frame name) old.stack }
 
@@ -117,11 +120,11 @@ module _ (old : Machine) (whole : IsMachine old) (code : CodeParts) (name : Code
   whole_called : IsMachine called_machine
   whole_called = record {
     program = subst IsProgram (sym funcs_are) whole.program;
-    never = subst NeverOptimises (sym funcs_are) whole.never;
     placed =
         (first_placed, all_mapped (IsPlaced (program_of old) (start_at old.code.starts)) (IsPlaced code.funcs (start_at code.starts)) (old.stack.frame ∷ old.stack.callers) still_placed whole.placed);
     registers = subst (λ fs. EachHasRegisters fs (called_code (first_frame name) old.stack)) (sym funcs_are) (calling_code_keeps_registers (program_of old) old.stack name whole.program known whole.registers);
     few = omega (arith, room);
+    flags = whole.flags ∙ sym (ap length funcs_are);
   }
 
   pub calls_out : (events given : List CodeEvent) → events ≡ given → RangesFollow old.code code given → GiveNoReason given → (new : Machine) → new ≡ called_machine
@@ -132,7 +135,7 @@ module _ (old : Machine) (whole : IsMachine old) (code : CodeParts) (name : Code
         whole = whole_called;
         program = funcs_are;
         does =
-            entered old whole name.func.0 called_machine room refl refl refl
+            entered old whole name.func.0 called_machine room refl refl refl funcs_are optimised_are refl
             (λ frame callers stands.
             subst (λ fs. Stands fs (called_code (first_frame name) old.stack) (frame_at (name.func.0, 0) old.stack.registers ∷ frame ∷ callers)) (sym funcs_are)
             (calls_code (program_of old) old.stack (frame ∷ callers) name whole.program known stands));
@@ -174,7 +177,6 @@ module _ (old : Machine) (whole : IsMachine old) (unit : ℕ) (child : IsChild o
       (subst (λ es. Acts old called_machine es (λ state frame callers. calls state frame callers func.0)) (sym none) (record {
         whole = record {
           program = whole.program;
-          never = whole.never;
           placed = (
             record {
               code = still_in (program_of old) old.stack own_slot.0 whole.program whole.placed.0.code own_slot.1 unit 0 place found;
@@ -185,10 +187,11 @@ module _ (old : Machine) (whole : IsMachine old) (unit : ℕ) (child : IsChild o
           registers =
               calling_within_keeps_registers (program_of old) old.stack own_slot.0 unit place site_here.0 whole.program whole.placed.0.code whole.registers own_slot.1 site_here.1 site_here.2 site_here.3 right;
           few = omega (arith, room);
+          flags = whole.flags;
         };
         program = refl;
         does =
-            entered old whole func.0 called_machine room refl refl refl
+            entered old whole func.0 called_machine room refl refl refl refl (λ f. refl) refl
             (λ frame callers stands.
             subst (λ f. Stands (program_of old) (called_within place old.stack) (frame_at (f, 0) old.stack.registers ∷ frame ∷ callers)) func_is
             (calls_within (program_of old) old.stack (frame ∷ callers) own_slot.0 unit place site_here.0 whole.program whole.placed.0.code stands own_slot.1 site_here.1 site_here.2 site_here.3 right));

@@ -12,9 +12,7 @@ use Rattle.code_event.specs.declared.layout.Slot.{Slot}
 use Rattle.code_event.specs.declared.layout.Unit.{Unit as CodeUnit}
 use Rattle.code_layout.specs.Laws.{func_at, IsSlotOf}
 use Rattle.guest_stack.proofs.Positions.{slot_is, func_within}
-use Rattle.guest_machine.proofs.Quiet.{never_at}
 use Rattle.guest_machine.specs.Machine.{IsMachine, body_at, next_op, op_of, program_of, youngest_layout}
-use Rattle.guest_machine.specs.NeverOptimises.{LeavesCodePlain}
 use Rattle.guest_stack.specs.Laws.{IsAtSlot}
 use Rattle.guest_machine.specs.declared.machine.Machine.{Machine}
 
@@ -72,6 +70,3 @@ module _ (machine : Machine) (whole : IsMachine machine) (slot : Slot) (at : IsA
   next_fits =
       subst (IsOp (length (program_of machine)) (length (body_at machine slot))) (next_is is.1.0 is.1.1)
       (op_fits (length (program_of machine)) (program_of machine) (func_at (youngest_layout machine).units slot.unit) slot.index is.1.0 whole.program.each is.1.1)
-
-  pub next_plain : LeavesCodePlain (next_op machine)
-  next_plain = subst LeavesCodePlain (next_is is.1.0 is.1.1) (never_at (program_of machine) (func_at (youngest_layout machine).units slot.unit) slot.index is.1.0 whole.never is.1.1)

@@ -1,5 +1,5 @@
 -- That acts which free or move code leave the rest of the machine as it is.
-use Rattle.std.proofs.Common.{◌≡◌, ℕ, List, [], ◌∷◌, map, refl, ap, ◌∙◌, sym, subst}
+use Rattle.std.proofs.Common.{◌≡◌, ℕ, List, [], ◌∷◌, length, map, refl, ap, ◌∙◌, sym, subst}
 use Rattle.std.specs.Prelude.{Bool, false, reverse, Option, Some, None, is_some}
 use Rattle.std.specs.List.{AllByRecursion, list_any}
 use Rattle.std.proofs.lemmas.List.{reverse-append}
@@ -13,8 +13,8 @@ use Rattle.code_space.specs.declared.range.CodeMove.{CodeMove}
 use Rattle.code_objects.specs.Changes.{RangesFollow, OthersStay, move_event, same_name}
 use Rattle.code_objects.specs.CodeObjects.{CodeParts, LieAt, start_at}
 use Rattle.code_objects.specs.declared.name.CodeName.{CodeName}
+use Rattle.guest_machine.proofs.Said.{SameOptimised, said_still}
 use Rattle.guest_machine.specs.Machine.{Acts, Advances, GiveNoReason, IsInState, IsMachine}
-use Rattle.guest_machine.specs.NeverOptimises.{NeverOptimises}
 use Rattle.plain_machine.specs.PlainMachine.{Frame, State}
 use Rattle.guest_stack.specs.Stack.{Stands, EachHasRegisters}
 use Rattle.guest_stack.specs.Laws.{IsInCode, IsPlaced}
@@ -32,9 +32,9 @@ moves_give_no_reason [] ranges why = refl
 moves_give_no_reason (move ∷ moves) ranges why = moves_give_no_reason moves (after_event ranges (move_event move)) why
 
 -- Other code of the same program.
-module _ (mid : Machine) (code : CodeParts) (funcs_is : code.funcs ≡ mid.code.funcs) where
+module _ (mid : Machine) (code : CodeParts) (funcs_is : code.funcs ≡ mid.code.funcs) (optimised_are : SameOptimised mid.code code) where
   pub state_kept : (state : State) → IsInState mid state → IsInState (record mid { code = code }) state
-  state_kept state is = record { stack = subst (λ f. Stands f mid.stack state.stack) (sym funcs_is) is.stack; engine = is.engine; rest = is.rest; ended = is.ended }
+  state_kept state is = record { stack = subst (λ f. Stands f mid.stack state.stack) (sym funcs_is) is.stack; codes = said_still mid (record mid { code = code }) state state funcs_is optimised_are refl refl is.codes; engine = is.engine; rest = is.rest; ended = is.ended }
 
   pub advance_kept : (old : Machine) (change : State → Frame → List Frame → State) → Advances old mid change → Advances old (record mid { code = code }) change
   advance_kept old change does state frame callers is stack_is = state_kept (change state frame callers) (does state frame callers is stack_is)
@@ -51,10 +51,10 @@ module _ (mid : Machine) (code : CodeParts) (funcs_is : code.funcs ≡ mid.code.
   whole_kept machine P used keeps =
       record {
         program = subst IsProgram (sym funcs_is) machine.program;
-        never = subst NeverOptimises (sym funcs_is) machine.never;
         placed = all_kept P keeps (mid.stack.frame ∷ mid.stack.callers) used machine.placed;
         registers = subst (λ f. EachHasRegisters f mid.stack) (sym funcs_is) machine.registers;
         few = machine.few;
+        flags = machine.flags ∙ sym (ap length funcs_is);
       }
 
   some_start : (o p : Option ℕ) → is_some p ≡ is_some o → (start : ℕ) → o ≡ Some start → (other : ℕ) × (p ≡ Some other)

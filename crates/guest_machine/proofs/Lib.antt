@@ -1,5 +1,8 @@
 pub mod Quiet
+pub mod Said
+pub mod RulesSame
 pub mod Advancing
+pub mod Moved
 pub mod Instructions
 pub mod KeptCode
 pub mod Addresses
@@ -7,5 +10,15 @@ pub mod Machines
 pub mod Returns
 pub mod Calls
 pub mod ActsDone
+pub mod Raised
+pub mod PartsDone
 pub mod PlainSteps
 pub mod Beginning
+pub mod ReturnRules
+pub mod Apart
+pub mod CallRules
+pub mod CollectRules
+pub mod Saying
+pub mod Barring
+pub mod Creating
+pub mod Deoptimising

@@ -20,7 +20,7 @@ use Rattle.guest_stack.specs.Laws.{IsInCode, IsPlaced}
 use Rattle.guest_machine.specs.declared.machine.Machine.{Machine}
 use Rattle.guest_stack.specs.declared.stack.CodeFrame.{CodeFrame}
 
-all_in_code : (funcs : List Func) (starts : CodeName → Option ℕ) (frames : List CodeFrame) → AllByRecursion (IsPlaced funcs starts) frames → AllByRecursion (IsInCode funcs) frames
+pub all_in_code : (funcs : List Func) (starts : CodeName → Option ℕ) (frames : List CodeFrame) → AllByRecursion (IsPlaced funcs starts) frames → AllByRecursion (IsInCode funcs) frames
 all_in_code funcs starts [] all = tt
 all_in_code funcs starts (frame ∷ frames) all = (all.0.code, all_in_code funcs starts frames all.1)
 

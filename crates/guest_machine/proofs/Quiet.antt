@@ -1,16 +1,13 @@
 -- What operations print, and that operations which leave code plain change nothing that is said of code.
-use Rattle.std.proofs.Common.{◌≡◌, ℕ, suc, ◌+◌, ◌*◌, ◌-◌, ◌^◌, List, [], ◌∷◌, ◌++◌, length, refl, subst, arith, zero}
+use Rattle.std.proofs.Common.{◌≡◌, ℕ, suc, ◌+◌, ◌*◌, ◌-◌, ◌^◌, List, [], ◌∷◌, ◌++◌, length, refl}
 use Rattle.std.proofs.lemmas.Bool.{cond_both}
-use Rattle.std.specs.Prelude.{Some, nat_lt, ◌==◌, false, decimal, codes, if◌then◌else◌}
-use Rattle.std.specs.List.{slice_get, AllByRecursion}
+use Rattle.std.specs.Prelude.{nat_lt, ◌==◌, false, decimal, codes, if◌then◌else◌}
 use Rattle.guest_program.specs.InlinedSize.{body_of}
 use Rattle.guest_program.specs.declared.instr.Func.{Func}
-use Rattle.guest_program.specs.declared.instr.Instr.{Instr}
 use Rattle.guest_program.specs.declared.instr.Op.{Op}
 use Rattle.guest_program.specs.declared.instr.Op.TheVariants as op
 use Rattle.code_event.specs.declared.tick.VmState.{VmState}
 use Rattle.code_event.specs.declared.tick.VmState.TheVariants.{Idle, Native, Gc}
-use Rattle.guest_machine.specs.NeverOptimises.{LeavesCodePlain, NeverOptimises}
 use Rattle.plain_machine.specs.PlainMachine.{State, Frame, ends, rises, with_register, register, sets, jumps, returns, waits, does, gives_up}
 use Rattle.plain_machine.specs.declared.ended.Ended.TheVariants as end
 
@@ -18,6 +15,13 @@ use Rattle.plain_machine.specs.declared.ended.Ended.TheVariants as end
 pub record IsQuiet (before after : State) : Type 0 where
   pub code : after.code ≡ before.code
   pub printed : after.printed ≡ before.printed
+
+-- an operation that neither optimises a function, nor gives optimised code up, nor disables optimising
+abbrev pub LeavesCodePlain : Op → Type 0
+LeavesCodePlain (op.Opt func) = ⊥
+LeavesCodePlain (op.Deopt func reason) = ⊥
+LeavesCodePlain (op.NoOpt func reason) = ⊥
+LeavesCodePlain other = Unit {0}
 
 -- an operation that does not print
 abbrev pub IsSilent : Op → Type 0
@@ -127,17 +131,3 @@ gives_none_up state op.Gc plain = refl
 gives_none_up state (op.Idle steps) plain = refl
 gives_none_up state (op.Native steps) plain = refl
 gives_none_up state (op.Collect steps) plain = refl
-
--- the operation of each instruction of such a program leaves code plain
-pub never_at : (funcs : List Func) (func index : ℕ) (instr : Instr) → NeverOptimises funcs → slice_get (body_of funcs func) index ≡ Some instr → LeavesCodePlain instr.op
-never_at funcs func index instr never found = in_funcs funcs func never found
-  where
-    in_body : (body : List Instr) (index : ℕ) → AllByRecursion (λ i. LeavesCodePlain i.op) body → slice_get body index ≡ Some instr → LeavesCodePlain instr.op
-    in_body [] index all is = absurd (grind arith)
-    in_body (first ∷ body) zero all is = let same : first ≡ instr = grind arith in subst (λ i. LeavesCodePlain i.op) same all.0
-    in_body (first ∷ body) (suc index) all is = in_body body index all.1 is
-
-    in_funcs : (funcs : List Func) (func : ℕ) → NeverOptimises funcs → slice_get (body_of funcs func) index ≡ Some instr → LeavesCodePlain instr.op
-    in_funcs [] func all is = absurd (grind arith)
-    in_funcs (first ∷ funcs) zero all is = in_body first.body index all.0 is
-    in_funcs (first ∷ funcs) (suc func) all is = in_funcs funcs func all.1 is

@@ -17,6 +17,7 @@ use Rattle.code_objects.specs.declared.name.CodeName.{CodeName}
 use Rattle.guest_machine.proofs.Advancing.{stands_for, ended_so}
 use Rattle.plain_machine.proofs.InBody.{body_short}
 use Rattle.guest_stack.proofs.Positions.{layout_is_code, slot_is, slot_there, in_end, off_end, slot_within, inlined_units_are_called, func_within, index_short}
+use Rattle.guest_machine.proofs.Said.{said_kept}
 use Rattle.guest_stack.proofs.StackActs.{still_in, rises_below, rises_past, top_registers}
 use Rattle.guest_stack.proofs.Stepping.{returns_within, returns_to_frame, last_returns, returning_within_keeps_registers, returning_to_frame_keeps_registers}
 use Rattle.guest_machine.specs.Machine.{IsMachine, IsInState, IsNotInlined, Advances, program_of, youngest_layout}
@@ -67,6 +68,7 @@ module _ (old : Machine) (program : IsProgram (program_of old)) (name : CodeName
       let gives : returns (program_of old) state frame callers ≡ after = rises_there ∙ rises_below (program_of old) state state caller to.1 less in
       subst (IsInState (record old { stack = returned place number })) (sym gives) (record {
         stack = subst (λ n. Stands (program_of old) (returned place number) (record { func = to.0.func; index = suc to.0.index; registers = slice_set to.0.registers 0 n } ∷ to.1)) number_is (to.5 place number right);
+        codes = said_kept old (record old { stack = returned place number }) state after refl refl refl is.codes;
         engine = is.engine;
         rest = is.rest;
         ended = is.ended;
@@ -132,7 +134,6 @@ module _ (old : Machine) (whole : IsMachine old) (slot : Slot) (at : IsAtSlot (p
   whole_inside new place number found new_is =
       subst IsMachine (sym new_is) (record {
         program = whole.program;
-        never = whole.never;
         placed = (
           record {
             code = still_in (program_of old) old.stack slot whole.program whole.placed.0.code at site.unit (suc site.index) place found;
@@ -144,6 +145,7 @@ module _ (old : Machine) (whole : IsMachine old) (slot : Slot) (at : IsAtSlot (p
             returning_within_keeps_registers (program_of old) old.stack slot site place number whole.program whole.placed.0.code whole.registers at site_is
             (found_is_right (youngest_layout old) site.unit (suc site.index) place found);
         few = few_left old.stack.saved whole.few;
+        flags = whole.flags;
       })
 
 -- A return from a frame.
@@ -207,12 +209,12 @@ module _ (old : Machine) (whole : IsMachine old) (outermost : IsNotInlined old) 
           } in
           subst IsMachine (sym new_is) (record {
             program = whole.program;
-            never = whole.never;
             placed = (subst (λ (o : Option CodeFrame). IsPlaced (program_of old) (start_at old.code.starts) (at_slot (unwrap_or o old.stack.frame) place)) (sym first) there, frames_placed.1);
             registers =
                 returning_to_frame_keeps_registers (program_of old) old.stack own_slot.0 caller (drop 1 old.stack.callers) slot place number whole.registers own_slot.1
                 (outermost own_slot.0 own_slot.1) callers_are at right;
             few = few_left old.stack.saved whole.few;
+            flags = whole.flags;
           })
 
 -- the place that was read of the index that follows

@@ -1,2 +1,3 @@
-pub mod NeverOptimises
+pub mod Rules
+pub mod Raises
 pub mod Machine

@@ -1,14 +1,14 @@
 // What the youngest frame's instruction does.
 ghost use Rattle.std.specs.Prelude.{◌≡◌, ◌%◌, ◌^◌, ◌+◌, ◌-◌, ◌*◌, ◌∷◌, ◌++◌, ℕ, List, nat_lt, if◌then◌else◌};
-ghost use Rattle.guest_machine.specs.Machine.{Advances, IsInState, IsInYoungestBody, IsMachine, printed_text, program_of};
+ghost use Rattle.guest_machine.specs.Machine.{Advances, IsInState, IsInYoungestBody, IsMachine, StaysInUnit, printed_text, program_of};
 ghost use Rattle.plain_machine.specs.PlainMachine.{Frame, State, does, ends, jumps, register, sets, waits};
 ghost use Rattle.plain_machine.specs.declared.ended.Ended.TheVariants as end;
 ghost use Rattle.guest_program.specs.declared.instr.Op.TheVariants as op;
 
-use plain_machine::Ended;
 use crate::machine::Machine;
 use code_event::VmState;
 use guest_program::Reg;
+use plain_machine::Ended;
 
 impl Machine {
     /// Puts a number into a register, and goes on.
@@ -16,6 +16,7 @@ impl Machine {
         requires whole { IsMachine self.old }
         ensures whole { IsMachine self.new }
         ensures code { self.new.code ≡ self.old.code }
+        ensures stays { StaysInUnit self.old self.new }
         ensures does { (n : Frame → ℕ) → ((frame : Frame) → frame.registers ≡ self.old.stack.registers → number ≡ n frame % 2 ^ 64)
             → Advances self.old self.new (λ state frame callers. sets (program_of self.old) state frame callers to (n frame)) }
     {
@@ -29,6 +30,7 @@ impl Machine {
         requires whole { IsMachine self.old }
         ensures whole { IsMachine self.new }
         ensures code { self.new.code ≡ self.old.code }
+        ensures stays { StaysInUnit self.old self.new }
         ensures does { Advances self.old self.new (λ state frame callers. sets (program_of self.old) state frame callers to (register frame to + register frame from)) }
     {
         let sum = self
@@ -43,6 +45,7 @@ impl Machine {
         requires whole { IsMachine self.old }
         ensures whole { IsMachine self.new }
         ensures code { self.new.code ≡ self.old.code }
+        ensures stays { StaysInUnit self.old self.new }
         ensures does { Advances self.old self.new (λ state frame callers. sets (program_of self.old) state frame callers to (register frame to + 2 ^ 64 - register frame from)) }
     {
         let difference = self
@@ -57,6 +60,7 @@ impl Machine {
         requires whole { IsMachine self.old }
         ensures whole { IsMachine self.new }
         ensures code { self.new.code ≡ self.old.code }
+        ensures stays { StaysInUnit self.old self.new }
         ensures does { Advances self.old self.new (λ state frame callers. sets (program_of self.old) state frame callers to (register frame to * register frame from)) }
     {
         let product = self
@@ -71,6 +75,7 @@ impl Machine {
         requires whole { IsMachine self.old }
         ensures whole { IsMachine self.new }
         ensures code { self.new.code ≡ self.old.code }
+        ensures stays { StaysInUnit self.old self.new }
         ensures does { Advances self.old self.new (λ state frame callers. sets (program_of self.old) state frame callers to (if nat_lt (register frame to) (register frame from) then 1 else 0)) }
     {
         if self.stack.register(to) < self.stack.register(from) {
@@ -86,6 +91,7 @@ impl Machine {
         requires within { IsInYoungestBody self.old index }
         ensures whole { IsMachine self.new }
         ensures code { self.new.code ≡ self.old.code }
+        ensures stays { StaysInUnit self.old self.new }
         ensures does { Advances self.old self.new (λ state frame callers. jumps state frame callers index) }
     {
         let frame = self.stack.frame();
@@ -102,6 +108,7 @@ impl Machine {
         requires within { IsInYoungestBody self.old index }
         ensures whole { IsMachine self.new }
         ensures code { self.new.code ≡ self.old.code }
+        ensures stays { StaysInUnit self.old self.new }
         ensures does { Advances self.old self.new (λ state frame callers. does (program_of self.old) state frame callers (op.Jz tested index)) }
     {
         if self.stack.register(tested) == 0 {
@@ -116,6 +123,7 @@ impl Machine {
         requires whole { IsMachine self.old }
         ensures whole { IsMachine self.new }
         ensures code { self.new.code ≡ self.old.code }
+        ensures stays { StaysInUnit self.old self.new }
         ensures does { Advances self.old self.new (λ state frame callers. does (program_of self.old) state frame callers (op.Print from)) }
         ensures printed { (state : State) (frame : Frame) (callers : List Frame) → IsInState self.old state → state.stack ≡ frame ∷ callers
             → (does (program_of self.old) state frame callers (op.Print from)).printed ≡ state.printed ++ printed_text result }
@@ -129,6 +137,7 @@ impl Machine {
         requires whole { IsMachine self.old }
         ensures whole { IsMachine self.new }
         ensures code { self.new.code ≡ self.old.code }
+        ensures stays { StaysInUnit self.old self.new }
         ensures does { Advances self.old self.new (λ before frame callers. waits (program_of self.old) before frame callers state steps) }
     {
         if self.rise() {
@@ -142,6 +151,7 @@ impl Machine {
         requires whole { IsMachine self.old }
         ensures whole { IsMachine self.new }
         ensures code { self.new.code ≡ self.old.code }
+        ensures stays { StaysInUnit self.old self.new }
         ensures does { Advances self.old self.new (λ state frame callers. ends end.Halt state) }
     {
         self.ended = Some(Ended::Halt);

@@ -1,14 +1,14 @@
 // What a call does.
-ghost use Rattle.std.specs.Prelude.{◌≡◌, ◌<◌, length, option_to_list, ℕ, IfOk, IfSome, IsSome, OnOk};
-ghost use Rattle.guest_machine.specs.Machine.{Acts, IsChild, IsMachine, next_op, program_of};
+ghost use Rattle.std.specs.Prelude.{◌≡◌, ◌<◌, length, None, option_to_list, ℕ, IfOk, IfSome, IsSome, OnOk};
+ghost use Rattle.guest_machine.specs.Machine.{ActKeepsRules, Acts, IsChild, IsMachine, next_op, program_of};
 ghost use Rattle.plain_machine.specs.PlainMachine.{calls};
 ghost use Rattle.guest_program.specs.declared.instr.Op.TheVariants as op;
 
-use plain_machine::Ended;
 use crate::machine::Machine;
-use guest_stack::CodeFrame;
 use code_event::CodeEvent;
 use code_objects::{CodeKind, CodeName};
+use guest_stack::CodeFrame;
+use plain_machine::Ended;
 use prof_base::{FuncId, Memory, Sequence};
 use std::alloc::Global;
 
@@ -50,9 +50,12 @@ impl Machine {
     // created where there is none. Returns the event of that. Out of memory spends the machine.
     fn call_code(&mut self, func: FuncId) -> Result<Sequence<CodeEvent>, Memory>
         requires whole { IsMachine self.old }
+        requires going { self.old.ended ≡ None }
+        requires outside { (unit : ℕ) → IsChild self.old unit → ⊥ }
         requires known { func.0 < length (program_of self.old) }
         requires room { length self.old.stack.saved < 254 }
         ensures acts { IfOk result (λ events. Acts self.old self.new events (λ state frame callers. calls state frame callers func.0)) }
+        ensures rules { IfOk result (λ events. ActKeepsRules self.old self.new events (op.Call func)) }
     {
         let optimised = CodeName {
             func,
@@ -82,9 +85,11 @@ impl Machine {
     /// of memory spends the machine.
     pub(crate) fn call(&mut self, func: FuncId) -> Result<Sequence<CodeEvent>, Memory>
         requires whole { IsMachine self.old }
+        requires going { self.old.ended ≡ None }
         requires next { next_op self.old ≡ op.Call func }
         requires known { func.0 < length (program_of self.old) }
         ensures acts { IfOk result (λ events. Acts self.old self.new events (λ state frame callers. calls state frame callers func.0)) }
+        ensures rules { IfOk result (λ events. ActKeepsRules self.old self.new events (op.Call func)) }
         ensures inlined { OnOk result ((unit : ℕ) → IsChild self.old unit → self.new.stack.callers ≡ self.old.stack.callers) }
     {
         if self.stack.depth() >= MAX_CALLERS {

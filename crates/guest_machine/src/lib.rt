@@ -5,8 +5,11 @@
 mod acting;
 mod calling;
 mod collecting;
+mod flags;
 mod machine;
+mod optimising;
 mod placing;
+mod raising;
 mod returning;
 mod steps;
 

@@ -5,16 +5,18 @@ ghost use Rattle.code_event.specs.Symbolizer.{frames_over};
 ghost use Rattle.code_event.specs.declared.event.CodeEvent.{CodeEvent};
 ghost use Rattle.code_objects.specs.CodeObjects.{start_at};
 ghost use Rattle.guest_machine.specs.Machine.{IsMachine, Reflects, printed_text, program_of};
-ghost use Rattle.guest_machine.specs.NeverOptimises.{NeverOptimises};
+ghost use Rattle.guest_machine.specs.Rules.{KeepsRules};
 ghost use Rattle.plain_machine.specs.PlainFrames.{plain_frames};
 ghost use Rattle.plain_machine.specs.PlainMachine.{plain, deopts};
 ghost use Rattle.guest_stack.specs.Stack.{address, addresses};
 
-use plain_machine::Ended;
-use guest_stack::Stack;
+use crate::flags::Flags;
+use crate::raising::plain_name;
 use code_event::{CodeEvent, Frames, SLOT_SIZE, VmState};
-use code_objects::{CodeKind, CodeName, CodeObjects};
+use code_objects::CodeObjects;
 use guest_program::Program;
+use guest_stack::Stack;
+use plain_machine::Ended;
 use prof_base::{Memory, Sequence};
 use std::alloc::Global;
 
@@ -24,6 +26,8 @@ use std::alloc::Global;
 pub struct Machine {
     pub(crate) alloc: Global,
     pub(crate) code: CodeObjects,
+    // Which functions are not to be optimised.
+    pub(crate) disabled: Flags,
     pub(crate) stack: Stack,
     pub(crate) state: VmState,
     // For how many more steps the engine is in that state, if it is not Js.
@@ -49,24 +53,20 @@ impl Machine {
     /// Makes the machine of a program before its first step, and returns the event by which the plain
     /// code of `main` was created.
     pub fn new(alloc: Global, program: Program) -> Result<(Machine, CodeEvent), Memory>
-        requires plain { NeverOptimises program }
         ensures whole { IfOk result (λ made. IsMachine made.0) }
         ensures program { IfOk result (λ made. program_of made.0 ≡ program) }
         ensures reflects { IfOk result (λ made. Reflects made.0 0 (made.1 ∷ [])) }
     {
-        // The functions are looked at for the rules that they keep.
-        let _funcs = program.funcs();
+        let disabled = Flags::new(alloc, program.funcs().len())?;
         let main = program.main();
         let mut code = CodeObjects::new(alloc, program)?;
         match code.ensure_plain(main)? {
             Some(event) => {
-                let name = CodeName {
-                    func: main,
-                    kind: CodeKind::Plain,
-                };
+                let name = plain_name(main);
                 let machine = Machine {
                     alloc,
                     code,
+                    disabled,
                     stack: Stack::new(alloc, name),
                     state: VmState::Js,
                     rest: 0,
@@ -89,6 +89,9 @@ impl Machine {
         // The machine is one step of the plain machine further, and its code is as its events say.
         ensures reflects { IfOk result (λ done. (steps : ℕ) (events : List CodeEvent) → Reflects self.old steps events
             → Reflects self.new (suc steps) (events ++ done.events)) }
+        // The code, the frames and the events of the step keep the rules.
+        ensures rules { IfOk result (λ done. (steps : ℕ) (events : List CodeEvent) → Reflects self.old steps events
+            → KeepsRules (plain (program_of self.old) steps) self.old self.new done.events) }
         ensures tick { IfOk result (λ done. (steps : ℕ) (events : List CodeEvent) → Reflects self.old steps events
             → done.vm_tick ≡ deopts (program_of self.old) steps) }
         ensures printed { IfOk result (λ done. (steps : ℕ) (events : List CodeEvent) → Reflects self.old steps events

@@ -4,16 +4,16 @@ ghost use Rattle.code_event.specs.Layout.{site_of};
 ghost use Rattle.code_event.specs.declared.layout.TheConstants.{SLOT_SIZE};
 ghost use Rattle.code_layout.specs.Laws.{func_at, slot_of};
 ghost use Rattle.code_objects.specs.CodeObjects.{layout_of, start_at};
-ghost use Rattle.guest_machine.specs.Machine.{IsMachine, Rises, next_op, program_of, youngest_layout};
+ghost use Rattle.guest_machine.specs.Machine.{HasMoved, IsMachine, Rises, next_op, program_of, youngest_layout};
 ghost use Rattle.guest_stack.specs.Stack.{address};
 ghost use Rattle.guest_stack.specs.Laws.{IsAtSlot, IsPlaced};
 
-use plain_machine::Ended;
 use crate::machine::Machine;
-use guest_stack::CodeFrame;
 use code_event::{Layout, SLOT_SIZE, Site, Slot};
 use code_space::SPACE_END;
 use guest_program::Op;
+use guest_stack::CodeFrame;
+use plain_machine::Ended;
 use prof_base::FuncId;
 
 impl Machine {
@@ -82,6 +82,7 @@ impl Machine {
         requires whole { IsMachine self.old }
         ensures whole { IsMachine self.new }
         ensures rises { Rises result self.old self.new }
+        ensures moves { HasMoved result self.old self.new }
         ensures same { self.new ≡ record self.old { stack = self.new.stack; ended = self.new.ended } }
         ensures going { IsTrue result → self.new.ended ≡ self.old.ended }
     {

@@ -53,6 +53,7 @@ impl Machine {
     // Does the youngest frame's instruction.
     fn act(&mut self) -> Result<StepDone, Memory>
         requires whole { IsMachine self.old }
+        requires going { self.old.ended ≡ None }
         ensures does { IfOk result (λ done. DoesOp self.old self.new done (next_op self.old)) }
     {
         match self.op() {
@@ -133,10 +134,26 @@ impl Machine {
                 self.wait_in(VmState::Gc, steps);
                 Ok(self.quiet())
             }
-            // The program never optimises a function.
-            Op::Opt(_) => unreachable!(),
-            Op::Deopt(_, _) => unreachable!(),
-            Op::NoOpt(_, _) => unreachable!(),
+            Op::Opt(func) => {
+                let func = *func;
+                let events = self.optimise(func)?;
+                Ok(self.done(events, None))
+            }
+            Op::NoOpt(func, reason) => {
+                let (func, reason) = (*func, reason.copy()?);
+                let events = self.refuse_to_optimise(func, reason)?;
+                Ok(self.done(events, None))
+            }
+            Op::Deopt(func, reason) => {
+                let (func, reason) = (*func, reason.copy()?);
+                let (events, vm_tick) = self.deoptimise(func, reason)?;
+                Ok(StepDone {
+                    events,
+                    vm_tick,
+                    printed: None,
+                    state: self.state,
+                })
+            }
         }
     }
 

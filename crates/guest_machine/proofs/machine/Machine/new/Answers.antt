@@ -1,9 +1,9 @@
-use Rattle.std.proofs.Common.{◌<◌, ◌∙◌, sym, subst, refl, length}
-use Rattle.std.specs.Prelude.{option_to_list}
+use Rattle.std.proofs.Common.{◌<◌, ◌∙◌, ap, sym, subst, refl, length}
+use Rattle.std.specs.Prelude.{false, option_to_list, replicate}
 use Rattle.guest_program.specs.Program.{IsMain, IsProgram}
+use Rattle.guest_stack.specs.Stack.{begun}
 use Rattle.code_objects.specs.Changes.{MakesSure, RangesFollow}
 use Rattle.code_objects.specs.CodeObjects.{plain_name}
-use Rattle.guest_machine.specs.NeverOptimises.{NeverOptimises}
 use Rattle.guest_machine.proofs.Beginning.{begun_whole, begun_reflects, none_nowhere}
 use Rattle.guest_machine.proofs.machine.Machine.new.Goals as goal
 
@@ -15,14 +15,14 @@ unreachable-requires c =
 pub returns-clause-whole : goal.returns-clause-whole
 returns-clause-whole c =
     let funcs = sym (c.ensure_plain.ensures.funcs ∙ c.in_ok-code.ensures.funcs) in
-    begun_whole _ c.main-main.result (subst IsProgram funcs c.funcs-funcs.ensures.rules) (subst NeverOptimises funcs c.requires.plain) (subst (λ f. IsMain f c.main-main.result.0) funcs c.main-main.ensures.main)
-    (subst (λ f. c.main-main.result.0 < length f) funcs c.main-main.ensures.within) c.in_ok-event.ensures.there c.new-in-Some.ensures
+    begun_whole _ c.main-main.result (subst IsProgram funcs c.funcs.ensures.rules) (subst (λ f. IsMain f c.main-main.result.0) funcs c.main-main.ensures.main)
+    (subst (λ f. c.main-main.result.0 < length f) funcs c.main-main.ensures.within) c.in_ok-event.ensures.there (c.new-in-Some.ensures ∙ ap begun c.plain_name-name.ensures) (c.in_ok-disabled.ensures ∙ ap (λ fs. replicate (length fs) false) (c.funcs.ensures.functions ∙ funcs))
 
 pub returns-clause-reflects : goal.returns-clause-reflects
 returns-clause-reflects c =
     let funcs = sym (c.ensure_plain.ensures.funcs ∙ c.in_ok-code.ensures.funcs) in
-    begun_reflects _ c.main-main.result (subst IsProgram funcs c.funcs-funcs.ensures.rules) (subst NeverOptimises funcs c.requires.plain) (subst (λ f. IsMain f c.main-main.result.0) funcs c.main-main.ensures.main)
-    (subst (λ f. c.main-main.result.0 < length f) funcs c.main-main.ensures.within) c.in_ok-event.ensures.there c.new-in-Some.ensures
-    c.in_ok-code.code c.in-Some.event refl refl refl refl c.in_ok-code.ensures.nowhere
+    begun_reflects _ c.main-main.result (subst IsProgram funcs c.funcs.ensures.rules) (subst (λ f. IsMain f c.main-main.result.0) funcs c.main-main.ensures.main)
+    (subst (λ f. c.main-main.result.0 < length f) funcs c.main-main.ensures.within) c.in_ok-event.ensures.there (c.new-in-Some.ensures ∙ ap begun c.plain_name-name.ensures) (c.in_ok-disabled.ensures ∙ ap (λ fs. replicate (length fs) false) (c.funcs.ensures.functions ∙ funcs))
+    c.in_ok-code.code c.in-Some.event refl refl refl refl c.in_ok-code.ensures.nowhere c.ensure_plain.ensures.others
     (subst (MakesSure c.in_ok-code.code c.ensure_plain.new.self (plain_name c.main-main.result)) c.in-Some.is c.in_ok-event.ensures.event)
     (subst (λ o. RangesFollow c.in_ok-code.code c.ensure_plain.new.self (option_to_list o)) c.in-Some.is c.in_ok-event.ensures.ranges)

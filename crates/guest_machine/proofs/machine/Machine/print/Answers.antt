@@ -12,3 +12,9 @@ returns-else-rise-clause-does c = has_not_printed c.args.self.now c.rise.new.sel
 
 pub returns-else-rise-clause-printed : goal.returns-else-rise-clause-printed
 returns-else-rise-clause-printed c = text_not_printed c.args.self.now c.rise.new.self c.args.from c.if-rise.ensures.rises
+
+pub returns-then-rise-clause-stays : goal.returns-then-rise-clause-stays
+returns-then-rise-clause-stays c = (c.rise.result, c.rise.ensures.moves)
+
+pub returns-else-rise-clause-stays : goal.returns-else-rise-clause-stays
+returns-else-rise-clause-stays c = (c.rise.result, c.rise.ensures.moves)

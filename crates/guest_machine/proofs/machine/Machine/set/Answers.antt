@@ -1,6 +1,8 @@
-use Rattle.std.proofs.Common.{ap}
+use Rattle.std.proofs.Common.{ap, refl, ◌∷◌}
+use Rattle.guest_stack.specs.Stack.{Physical}
 use Rattle.std.specs.Prelude.{slice_set}
 use Rattle.guest_machine.proofs.Advancing.{has_set, has_not_set, whole_set}
+use Rattle.guest_machine.proofs.Moved.{set_stays}
 use Rattle.guest_machine.proofs.machine.Machine.set.Goals as goal
 
 pub returns-then-rise-clause-whole : goal.returns-then-rise-clause-whole
@@ -13,3 +15,10 @@ returns-then-rise-clause-does c n number_is =
 
 pub returns-else-rise-clause-does : goal.returns-else-rise-clause-does
 returns-else-rise-clause-does c n number_is = has_not_set c.args.self.now c.rise.new.self c.args.to n c.if-rise.ensures.rises
+
+pub returns-then-rise-clause-stays : goal.returns-then-rise-clause-stays
+returns-then-rise-clause-stays c =
+    set_stays c.rise.result c.args.self.now c.rise.new.self _ c.rise.ensures.moves (ap (λ (s : Physical). s.frame ∷ s.callers) c.set.ensures) refl
+
+pub returns-else-rise-clause-stays : goal.returns-else-rise-clause-stays
+returns-else-rise-clause-stays c = (c.rise.result, c.rise.ensures.moves)

@@ -1,0 +1,13 @@
+use Rattle.std.proofs.Common.{◌∙◌, sym, ap}
+use Rattle.std.proofs.lemmas.Result.{on_ok_weaker}
+use Rattle.code_objects.specs.CodeObjects.{start_at}
+use Rattle.guest_machine.proofs.Raised.{not_optimised_raised}
+use Rattle.guest_machine.proofs.raising.say_not_optimised.Goals as goal
+
+pub returns : goal.returns
+returns c =
+    record {
+      raises = on_ok_weaker c.push.result
+          (not_optimised_raised c.args.code.now c.args.func c.in-Some.start c.args.reason c.args.events.now c.push.new.self
+          (ap (start_at c.args.code.now.starts) (sym c.plain_name.ensures) ∙ sym c.start_of.ensures.start ∙ c.in-Some.is)) c.push.ensures.ok;
+    }
