@@ -4,18 +4,16 @@
 #![tactic(auto)]
 
 mod asked;
-mod plain;
 
 ghost use Rattle.guest_machine.specs.Machine.{IsMachine};
 
 use crate::asked::Asked;
-use crate::plain::never_optimises;
 use case_text::text_of;
-use code_event::{CodeEvent, Frames, VmState};
+use code_event::{CodeEvent, Frames, Layout, VmState};
 use guest_machine::{Machine, StepDone};
-use plain_machine::Ended;
 use guest_program::Program;
 use guest_text::read_program;
+use plain_machine::Ended;
 use std::alloc::Global;
 use std::{fs, io};
 
@@ -37,19 +35,33 @@ fn end_words(ended: Option<Ended>) -> &'static str {
     }
 }
 
+fn print_create(rt: &impl Print, step: u64, start: u32, layout: &Layout) -> Result<(), io::Error> {
+    let slots = layout.slots().len();
+    match layout.units() {
+        [unit] => println!(rt;
+            "{step} create {start} slots {slots} function {}",
+            unit.func.0
+        ),
+        units => {
+            print!(rt; "{step} create {start} slots {slots} functions")?;
+            for unit in units {
+                print!(rt; " {}", unit.func.0)?;
+            }
+            println!(rt; "")
+        }
+    }
+}
+
 fn print_event(rt: &impl Print, step: u64, event: &CodeEvent) -> Result<(), io::Error> {
     match event {
-        CodeEvent::Create { start, layout } => {
-            let slots = layout.slots().len();
-            match layout.units() {
-                [unit] => println!(rt;
-                    "{step} create {start} slots {slots} function {}",
-                    unit.func.0
-                ),
-                units => println!(rt; "{step} create {start} units {}", units.len()),
-            }
-        }
+        CodeEvent::Create { start, layout } => print_create(rt, step, *start, layout),
         CodeEvent::Move { from, to } => println!(rt; "{step} move {from} {to}"),
+        CodeEvent::NoOpt { start, reason } => {
+            println!(rt; "{step} noopt {start} {}", reason.as_str())
+        }
+        CodeEvent::Deopt { start, reason } => {
+            println!(rt; "{step} deopt {start} {}", reason.as_str())
+        }
         CodeEvent::Delete { start } => println!(rt; "{step} delete {start}"),
         _ => println!(rt; "{step} another event"),
     }
@@ -122,9 +134,6 @@ fn run(rt: &impl Print, asked: &Asked, mut machine: Machine) -> Result<(), io::E
 }
 
 fn begin(rt: &impl Print, alloc: Global, asked: &Asked, program: Program) -> Result<(), io::Error> {
-    if !never_optimises(program.funcs()) {
-        return println!(rt; "an optimising program");
-    }
     match Machine::new(alloc, program) {
         Ok((machine, event)) => {
             print_event(rt, 0, &event)?;
