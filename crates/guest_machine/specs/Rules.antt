@@ -19,7 +19,7 @@ use Rattle.code_space.specs.declared.range.TheConstants.{FIRST_ADDRESS}
 use Rattle.code_objects.specs.Changes.{IsCreation, IsDeletion, MakesSure, OthersStay, move_event, same_name, with_moves}
 use Rattle.code_objects.specs.CodeObjects.{CodeParts, layout_of, optimised_name, plain_name, start_at}
 use Rattle.code_objects.specs.declared.name.CodeName.{CodeName}
-use Rattle.plain_machine.specs.PlainMachine.{Code, Frame, State, code_at, instr_of, is_js, step}
+use Rattle.plain_machine.specs.PlainMachine.{Code, Frame, State, code_at, instr_of, is_js, main_of, step}
 use Rattle.guest_stack.specs.Stack.{all_given_up, at_slot, first_frame, slot_of_frame}
 use Rattle.guest_stack.specs.Laws.{IsAtSlot}
 use Rattle.guest_stack.specs.declared.stack.CodeFrame.{CodeFrame}
@@ -227,3 +227,13 @@ WaitsOrActs false state old new events = Becomes Unchanged (frames_of old) old n
 -- A step keeps the rules, from this state of the plain machine.
 abbrev pub KeepsRules : State → Machine → Machine → List CodeEvent → Type 0
 KeepsRules state old new events = WaitsOrActs (is_js state.state) state old new events
+
+-- The machine opens: there was no code, the plain code of `main` is made sure of, and the one frame is at its first slot.
+pub record Opens (machine : Machine) (event : CodeEvent) : Type 0 where
+  pub before : CodeParts
+  pub funcs : before.funcs ≡ machine.code.funcs
+  pub none : before.space ≡ []
+  pub main : FuncId
+  pub main_is : main.0 ≡ main_of machine.code.funcs
+  pub code : IsSure (plain_name main) before machine.code (event ∷ [])
+  pub frames : frames_of machine ≡ first_frame (plain_name main) ∷ []

@@ -5,7 +5,7 @@ ghost use Rattle.code_event.specs.Symbolizer.{frames_over};
 ghost use Rattle.code_event.specs.declared.event.CodeEvent.{CodeEvent};
 ghost use Rattle.code_objects.specs.CodeObjects.{start_at};
 ghost use Rattle.guest_machine.specs.Machine.{IsMachine, Reflects, printed_text, program_of};
-ghost use Rattle.guest_machine.specs.Rules.{KeepsRules};
+ghost use Rattle.guest_machine.specs.Rules.{KeepsRules, Opens};
 ghost use Rattle.plain_machine.specs.PlainFrames.{plain_frames};
 ghost use Rattle.plain_machine.specs.PlainMachine.{plain, deopts};
 ghost use Rattle.guest_stack.specs.Stack.{address, addresses};
@@ -56,6 +56,7 @@ impl Machine {
         ensures whole { IfOk result (λ made. IsMachine made.0) }
         ensures program { IfOk result (λ made. program_of made.0 ≡ program) }
         ensures reflects { IfOk result (λ made. Reflects made.0 0 (made.1 ∷ [])) }
+        ensures opens { IfOk result (λ made. Opens made.0 made.1) }
     {
         let disabled = Flags::new(alloc, program.funcs().len())?;
         let main = program.main();
