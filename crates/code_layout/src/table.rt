@@ -1,27 +1,43 @@
 // Where the slots of a layout stand.
-ghost use Rattle.std.specs.Prelude.{◌≡◌, ◌<◌, IfOk};
+ghost use Rattle.std.specs.Prelude.{◌≡◌, ◌<◌, ◌==◌, Some, [], ℕ, cond, length, IfOk, OnOk};
 ghost use Rattle.code_event.specs.Parts.{LayoutParts};
 ghost use Rattle.code_layout.specs.Laws.{slot_of};
-ghost use Rattle.code_layout.specs.Places.{HasPlaces, key};
+ghost use Rattle.code_layout.specs.Places.{HasPlaces, entry, row_at};
 
 use code_event::Layout;
 use prof_base::Memory;
 use std::alloc::Global;
-use std::collections::BTreeMap;
 
 /// The places of a layout's slots, by unit and index, for jumps inside a unit. A look-up takes
-/// logarithmic time.
+/// constant time.
 #[derive(Drop)]
 pub struct SlotTable {
-    places: BTreeMap<u32, u16>,
+    // By the units, and then by the indices.
+    rows: Vec<Vec<Option<u16>>>,
 }
 
-// Returns a unit and an index as one number.
-fn key(unit: u16, index: u16) -> u32
-    ensures key { result ≡ key unit index }
-    ensures fits { index < 65536 }
+// Makes this number of empty rows.
+fn empty_rows(alloc: Global, count: usize) -> Result<Vec<Vec<Option<u16>>>, Memory>
+    ensures count { IfOk result (λ rows. length rows.items ≡ count) }
+    ensures empty { IfOk result (λ rows. (unit : ℕ) → row_at rows.items unit ≡ []) }
 {
-    u32::from(unit) * 0x1_0000 + u32::from(index)
+    let mut rows = Vec::with_capacity(alloc, count)?;
+    for _unit in 0..count {
+        rows.push(Vec::new(alloc))?;
+    }
+    Ok(rows)
+}
+
+// Puts the place of an index into a row, in the place of what was there.
+fn put(row: &mut Vec<Option<u16>>, index: u16, place: u16) -> Result<(), Memory>
+    ensures { OnOk result ((other : ℕ) → entry row.new.items other ≡ cond (index == other) (Some place) (entry row.old.items other)) }
+{
+    let at = usize::from(index);
+    while row.len() <= at {
+        row.push(None)?;
+    }
+    row[at] = Some(place);
+    Ok(())
 }
 
 impl SlotTable {
@@ -31,15 +47,15 @@ impl SlotTable {
         ensures { IfOk result (λ table. HasPlaces table layout.now) }
     {
         let slots = layout.slots();
-        let mut places = BTreeMap::new(alloc);
+        let mut rows = empty_rows(alloc, layout.units().len())?;
         let mut place = slots.len() as u16;
         // From the last slot to the first, so that the first slot of a unit and an index stays.
         while place > 0 {
             place -= 1;
             let slot = slots[usize::from(place)];
-            places.insert(key(slot.unit, slot.index), place)?;
+            put(&mut rows[usize::from(slot.unit)], slot.index, place)?;
         }
-        Ok(SlotTable { places })
+        Ok(SlotTable { rows })
     }
 
     /// Finds the place of the slot of a unit and an index.
@@ -47,6 +63,7 @@ impl SlotTable {
     pub fn find(&self, unit: u16, index: u16) -> Option<u16>
         ensures { (layout : LayoutParts) → HasPlaces self.now layout → result ≡ slot_of layout unit index }
     {
-        self.places.get(&key(unit, index)).copied()
+        let row = self.rows.get(usize::from(unit))?;
+        *row.get(usize::from(index))?
     }
 }

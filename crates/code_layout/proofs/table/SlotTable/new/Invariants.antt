@@ -1,4 +1,4 @@
-use Rattle.std.proofs.Common.{◌≤◌, length, drop}
+use Rattle.std.proofs.Common.{◌≡◌, ◌≤◌, length, drop}
 use Rattle.code_layout.proofs.Places.{HavePlaces}
 use Rattle.code_layout.proofs.table.SlotTable.new.Given as goal
 
@@ -8,5 +8,6 @@ decreases-loop-place l = l.place
 abbrev pub invariant-loop-place : goal.invariant-loop-place
 invariant-loop-place l = record {
   within : l.place ≤ length l.slots;
-  places : HavePlaces l.places l.place (drop l.place l.slots);
+  count : length l.rows.items ≡ length l.layout.units;
+  places : HavePlaces l.rows.items l.place (drop l.place l.slots);
 }
