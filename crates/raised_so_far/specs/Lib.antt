@@ -1,0 +1,5 @@
+pub mod EntriesSoFar
+pub mod FileOrder
+pub mod ItemsSoFar
+pub mod Laws
+pub mod Raised
