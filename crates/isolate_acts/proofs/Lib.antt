@@ -1,0 +1,14 @@
+pub mod ActsStand
+pub mod AfterEnd
+pub mod CallsMade
+pub mod Ending
+pub mod Samples
+pub mod Stamped
+pub mod Standing
+pub mod TurnSteps
+pub mod Within
+pub mod FitsKept
+pub mod ScheduleKept
+pub mod ScheduleMore
+pub mod SchedulePhases
+pub mod ScheduleTurns

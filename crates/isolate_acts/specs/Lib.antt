@@ -1,0 +1,11 @@
+pub mod ActLaws
+pub mod Acts
+pub mod CallLaws
+pub mod Calls
+pub mod Phases
+pub mod Progress
+pub mod Sampling
+pub mod Stands
+pub mod TurnLaws
+pub mod ScheduleSoFar
+pub mod FitsSoFar
