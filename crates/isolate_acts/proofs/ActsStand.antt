@@ -56,7 +56,7 @@ acts_stand funcs moment p (must_end later) next (ends why now) raised is is_mome
 acts_stand funcs moment p phase next act raised is is_moment within may = absurd may
 
 -- after an act the guest's stack is still the plain machine's
-moment_kept : (moment : Moment) (p : Progress) (phase next : Phase) (act : Act) → IsMoment moment → MayAct moment p phase act next → IsMoment (moment_after moment act)
+pub moment_kept : (moment : Moment) (p : Progress) (phase next : Phase) (act : Act) → IsMoment moment → MayAct moment p phase act next → IsMoment (moment_after moment act)
 moment_kept moment p stepping next (steps after events) is may = may.1.shows
 moment_kept moment p (at_port port commands) next (steps after events) is may = absurd may
 moment_kept moment p asking next (steps after events) is may = absurd may

@@ -18,7 +18,7 @@ use Rattle.isolate_acts.specs.Progress.{Moment, Progress, IsWithin, entry_count,
 use Rattle.isolate_acts.specs.Sampling.{after_sample}
 
 -- one more entry
-entry_within : (p : Progress) (entry : ScheduleEntry) (events ticks : ℕ) (is_sampled : Bool) (ending : Option EndCause)
+pub entry_within : (p : Progress) (entry : ScheduleEntry) (events ticks : ℕ) (is_sampled : Bool) (ending : Option EndCause)
     → IsWithin p → HasPort entry.what → entry_count p < p.schedule.limit → entry.time < 2 ^ 53 → ticks ≤ suc p.ticks
     → IsWithin (record (with_entry p entry) { events = events; ticks = ticks; is_sampled = is_sampled; ending = ending })
 entry_within p entry events ticks is_sampled ending within port room before few =
@@ -43,7 +43,8 @@ entry_within p entry events ticks is_sampled ending within port room before few 
       ticks = omega (arith, long, few, ticks_had);
     }
 
-small_time : (p : Progress) (now : ℕ) → entry_time p now < 2 ^ 53
+-- the time of an entry is in its range
+pub small_time : (p : Progress) (now : ℕ) → entry_time p now < 2 ^ 53
 small_time p now = let positive : 0 < 2 ^ 53 = lit< tt in omega arith
 
 sample_within : (p : Progress) (now : ℕ) (is_in : Bool) → IsWithin p → suc (entry_count p) < p.schedule.limit → IsWithin (after_sample p now is_in)
