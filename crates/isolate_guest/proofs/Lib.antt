@@ -1,0 +1,2 @@
+pub mod OfCode
+pub mod Moments
