@@ -1,0 +1,4 @@
+pub mod Queues
+pub mod Ports
+pub mod Runs
+pub mod RunLaws

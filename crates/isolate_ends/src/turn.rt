@@ -1,0 +1,11 @@
+// What a turn of an isolate comes to.
+use record_text::EndCause;
+
+/// What a turn came to.
+#[derive(Clone, Copy, Debug, PartialEq, Eq)]
+pub enum IsoTurn {
+    /// The isolate goes on.
+    Ran,
+    /// It has ended.
+    Ended(EndCause),
+}
