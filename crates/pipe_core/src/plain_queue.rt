@@ -85,7 +85,7 @@ impl<T: Stamped> Head<T> for PlainQueue<T> {
 
     ghost shown = { shown_of T.stamp_of };
 
-    ghost home = { λ _. [] };
+    ghost home = { λ q. q.spare ∷ [] };
 
     fn peek(&mut self) -> Option<Stamp>
         ensures shown { result ≡ option_map T.stamp_of (first_of self.old.items) }

@@ -64,7 +64,7 @@ impl Offer for PlainRing {
 
     ghost fulls = { λ r. r.fulls };
 
-    ghost home = { λ _. [] };
+    ghost home = { λ r. r.places ∷ [] };
 
     fn offer(&mut self, tick: Tick) -> Offered
         ensures went_in { MatchOffered result (self.new ≡ record self.old { items = self.old.items ++ tick ∷ [] }) (λ t. t ≡ tick) }
@@ -89,7 +89,7 @@ impl Fronted for PlainRing {
 
     ghost empties = { λ r. r.empties };
 
-    ghost home = { λ _. [] };
+    ghost home = { λ r. r.places ∷ [] };
 
     fn front(&mut self) -> Front
         ensures shown { MatchFront result (λ s. option_map tick_stamp (first_of self.old.items) ≡ Some s) (self.old.items ≡ []) }
