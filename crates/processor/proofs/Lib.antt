@@ -6,6 +6,8 @@ pub mod PlainSteps
 pub mod PlainTaking
 pub mod PlainTurns
 pub mod RunningSessions
+pub mod Settled
+pub mod Settling
 pub mod Stopped
 pub mod Taking
 pub mod Telling

@@ -32,11 +32,32 @@ item_is_something : (x : Item) → item_answer x ≡ turn.Nothing → ⊥
 item_is_something (item.Event e) same = event_is_something e.event same
 item_is_something (item.Tick t) same = absurd (cc same)
 
+event_is_not_over : (event : CodeEvent) → event_answer event ≡ turn.Over → ⊥
+event_is_not_over (Create start layout) e = absurd (cc e)
+event_is_not_over (Move from to) e = absurd (cc e)
+event_is_not_over (NoOpt start reason) e = absurd (cc e)
+event_is_not_over (Deopt start reason) e = absurd (cc e)
+event_is_not_over (Delete start) e = absurd (cc e)
+event_is_not_over (Start s options time) e = absurd (cc e)
+event_is_not_over (Stop s time) e = absurd (cc e)
+event_is_not_over (Finish time files) e = absurd (cc e)
+
+-- a turn that takes an item does not answer Over
+pub item_is_not_over : (x : Item) → item_answer x ≡ turn.Over → ⊥
+item_is_not_over (item.Event e) same = event_is_not_over e.event same
+item_is_not_over (item.Tick t) same = absurd (cc same)
+
 -- where Nothing is answered, no memory has run out
-answered_nothing : (was is : Bool) (answer : ProcTurn) → answer_with was is answer ≡ turn.Nothing → answer ≡ turn.Nothing
+pub answered_nothing : (was is : Bool) (answer : ProcTurn) → answer_with was is answer ≡ turn.Nothing → answer ≡ turn.Nothing
 answered_nothing true true answer same = same
 answered_nothing false true answer same = absurd (cc same)
 answered_nothing was false answer same = same
+
+-- the same of Over
+pub answered_over : (was is : Bool) (answer : ProcTurn) → answer_with was is answer ≡ turn.Over → answer ≡ turn.Over
+answered_over true true answer same = same
+answered_over false true answer same = absurd (cc same)
+answered_over was false answer same = same
 
 pub nothing_taken : (taken : Option Item) (old : CourseParts) (was is : Bool) (answer : ProcTurn) (base : ℕ) (items : List Item) (applied ticked : ℕ) (new : CourseParts) (before now : Option Parts)
     → answer_with was is answer ≡ turn.Nothing → answer ≡ turn_answer old taken → StandsFor base (items ++ option_to_list taken) applied ticked new before now → StandsFor base items applied ticked new before now

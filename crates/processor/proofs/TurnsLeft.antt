@@ -35,7 +35,7 @@ turns_left (phase.Finishing time) rest running whole = length running
 turns_left phase.Closed rest running whole = 0
 
 -- no more sessions wait than run after the list
-waits_at_most : (base : ℕ) (items rest : List Item) (time : ℕ) (filing : FilingParts) (before now : Option Parts) → IsLegalItems (items ++ rest) → IsFinishing base items time filing before now
+pub waits_at_most : (base : ℕ) (items rest : List Item) (time : ℕ) (filing : FilingParts) (before now : Option Parts) → IsLegalItems (items ++ rest) → IsFinishing base items time filing before now
     → length filing.running ≤ length (running_ports (items ++ rest))
 waits_at_most base items rest time filing before now legal h =
     let last : rest ≡ [] = last_item items h.earlier rest h.event time true h.all h.is_finish legal in
@@ -58,12 +58,12 @@ fewer_wait r running now ended =
     let all : length (sessions_of running) ≡ length running = length-map running (λ x. x.session.0) in
     omega (arith, same, at_most, all)
 
-ends_one : (p : Phase) (rest : List Item) (running : List SessionPort) (whole : List Item) (time : ℕ) (old new : FilingParts) (answer : ProcTurn)
-    → p ≡ phase.Finishing time → EndsFirst running old new → answer ≡ answer_with old.is_spent new.is_spent (waiting_answer (phase.Finishing time) (sessions_of running)) → (answer ≡ turn.Over → ⊥)
-    → turns_left p rest new.running whole + 1 ≤ length running
-ends_one p rest [] whole time old new answer is ends answers more = absurd (more (answers ∙ answer_same old new turn.Over ends))
-ends_one p rest (r ∷ running) whole time old new answer is ends answers more =
-    subst (λ q. turns_left q rest new.running whole + 1 ≤ length (r ∷ running)) (sym is) (fewer_wait r running new.running ends)
+-- a turn that ends a session leaves fewer that wait
+pub ends_one : (running : List SessionPort) (time : ℕ) (old new : FilingParts) (answer : ProcTurn)
+    → EndsFirst running old new → answer ≡ answer_with old.is_spent new.is_spent (waiting_answer (phase.Finishing time) (sessions_of running)) → (answer ≡ turn.Over → ⊥)
+    → length new.running + 1 ≤ length running
+ends_one [] time old new answer ends answers more = absurd (more (answers ∙ answer_same old new turn.Over ends))
+ends_one (r ∷ running) time old new answer ends answers more = fewer_wait r running new.running ends
 
 takes_one : (p : Phase) (base : ℕ) (items : List Item) (x : Item) (rest : List Item) (new : FilingParts) (before now : Option Parts) → IsLegalItems (items ++ x ∷ rest)
     → IsFiledAt p base (items ++ x ∷ []) new before now → turns_left p rest new.running (items ++ x ∷ rest) + 1 ≤ length (x ∷ rest) + length (running_ports (items ++ x ∷ rest))
@@ -83,7 +83,7 @@ one_fewer phase.Open q base items [] old new answer before now legal filed answe
 one_fewer phase.Open q base items (x ∷ rest) old new answer before now legal filed answers stays waiting some more =
     takes_one q base items x rest new before now legal (filed (legal_before (items ++ x ∷ []) rest (subst IsLegalItems (sym (append_assoc items (x ∷ []) rest)) legal)))
 one_fewer (phase.Finishing time) q base items rest old new answer before now legal filed answers stays waiting some more =
-    ends_one q rest old.running (items ++ rest) time old new answer stays waiting answers more
+    subst (λ p. turns_left p rest new.running (items ++ rest) + 1 ≤ length old.running) (sym stays) (ends_one old.running time old new answer waiting answers more)
 one_fewer phase.Closed q base items rest old new answer before now legal filed answers stays waiting some more = absurd (more (answers ∙ answer_same old new turn.Over waiting))
 
 -- what is left of a run over queues, of which this many turns were made
@@ -110,7 +110,7 @@ all_left base items rest applied ticked course before now events vm_ticks ring s
       omega (arith, at_first);
 }
 
-taken_and_left : (p : Phase) (items rest : List Item) → (items ++ option_to_list (next_in p rest)) ++ left_in p rest ≡ items ++ rest
+pub taken_and_left : (p : Phase) (items rest : List Item) → (items ++ option_to_list (next_in p rest)) ++ left_in p rest ≡ items ++ rest
 taken_and_left phase.Open items [] = ap (λ (l : List Item). l ++ []) (append-nil items)
 taken_and_left phase.Open items (x ∷ rest) = append_assoc items (x ∷ []) rest
 taken_and_left (phase.Finishing time) items rest = ap (λ (l : List Item). l ++ rest) (append-nil items)

@@ -5,5 +5,6 @@ pub mod Lending
 pub mod Plain
 pub mod Processor
 pub mod Running
+pub mod Settling
 pub mod Taking
 pub mod TakingLaws

@@ -13,7 +13,7 @@ mod running;
 mod taker;
 mod turn;
 
-pub use plain::{take_plain, turn_plain, turns_plain};
+pub use plain::{settle_plain, take_plain, turn_plain, turns_plain};
 pub use ports::{FilePorts, NoPorts, PortCall, SurePorts};
 pub use processor::Processor;
 pub use running::SessionPort;

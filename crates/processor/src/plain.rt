@@ -8,6 +8,7 @@ ghost use Rattle.processor.specs.CourseLaws.{AreDelivered};
 ghost use Rattle.processor.specs.Plain.{GoesOn, IsPlainTurn};
 ghost use Rattle.code_event.specs.ItemList.{IsLegalItems};
 ghost use Rattle.processor.specs.Running.{running_ports};
+ghost use Rattle.processor.specs.Settling.{GoesOnTo, IsAmid, IsSettled};
 ghost use Rattle.processor.specs.Taking.{HasTaken};
 ghost use Rattle.processor.specs.TakingLaws.{HoldRest};
 
@@ -62,6 +63,13 @@ pub fn turn_plain<S: OutputStream, X: FilePorts>(
         → StandsFor base items processor.old.applied processor.old.ticked processor.old.course before (S.parts processor.old.stream)
         → HoldRest items rest processor.old.events.items processor.old.vm_ticks.items processor.old.ring.items → IsLegalItems (items ++ rest)
         → AreDelivered base (items ++ rest) [] processor.new.course.filing before (S.parts processor.new.stream) }
+
+    // Each refusal is counted, and no count falls. The size of chunks, the spare place of the events and
+    // the places of the ring stay the same.
+    ensures refusing { GoesOnTo processor.old.course.filing processor.new.course.filing (S.aborts processor.old.stream) (S.stream_faults processor.old.stream) (S.aborts processor.new.stream) (S.stream_faults processor.new.stream) }
+    ensures chunk_size { S.chunk_bytes processor.new.stream ≡ S.chunk_bytes processor.old.stream }
+    ensures spare { processor.new.events.spare ≡ processor.old.events.spare }
+    ensures places { processor.new.ring.places ≡ processor.old.ring.places }
 {
     processor.turn(ports)
 }
@@ -100,4 +108,32 @@ pub fn turns_plain<S: OutputStream, X: FilePorts>(
         }
     }
     None
+}
+
+/// Turns a processor over three queues of one thread until it answers Nothing or Over, in as many turns
+/// as that takes. Where the processor has taken the first items of a legal list and the queues hold the
+/// others, it has taken all of them afterwards, and the queues hold nothing; and where a finish was
+/// taken, all files of the list are delivered, as far as the delivery and the memory say.
+pub fn settle_plain<S: OutputStream, X: FilePorts>(
+    processor: &mut Processor<PlainQueue<EventRecord>, PlainQueue<Tick>, PlainRing, S>,
+    ports: &mut X,
+)
+    requires amid { (base : ℕ) × IsAmid base processor.old.applied processor.old.ticked processor.old.course (S.parts processor.old.stream) processor.old.events.items processor.old.vm_ticks.items processor.old.ring.items }
+    ensures settled { (base : ℕ) (whole : List Item) (before : Option Parts) → IsLegalItems whole
+        → GoesOn base whole processor.old.applied processor.old.ticked processor.old.course before (S.parts processor.old.stream) processor.old.events.items processor.old.vm_ticks.items processor.old.ring.items
+        → IsSettled base whole processor.new.applied processor.new.ticked processor.new.course before (S.parts processor.new.stream) processor.new.events.items processor.new.vm_ticks.items processor.new.ring.items }
+
+    // Each refusal is counted, and no count falls. The size of chunks, the spare place of the events and
+    // the places of the ring stay the same.
+    ensures refusing { GoesOnTo processor.old.course.filing processor.new.course.filing (S.aborts processor.old.stream) (S.stream_faults processor.old.stream) (S.aborts processor.new.stream) (S.stream_faults processor.new.stream) }
+    ensures chunk_size { S.chunk_bytes processor.new.stream ≡ S.chunk_bytes processor.old.stream }
+    ensures spare { processor.new.events.spare ≡ processor.old.events.spare }
+    ensures places { processor.new.ring.places ≡ processor.old.ring.places }
+{
+    loop {
+        let answer = turn_plain(processor, ports);
+        if answer == ProcTurn::Over || answer == ProcTurn::Nothing {
+            return;
+        }
+    }
 }

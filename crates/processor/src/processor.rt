@@ -194,6 +194,14 @@ impl<
         self.course.delivery()
     }
 
+    /// Returns whether memory has run out: from then on no tick is attributed and each later file is
+    /// lost.
+    pub fn is_spent(&self) -> bool
+        ensures { result ≡ self.now.course.filing.is_spent }
+    {
+        self.course.is_spent()
+    }
+
     /// Returns the number of ticks taken.
     pub fn ticked(&self) -> u64
         ensures { result ≡ self.now.ticked }
