@@ -1,5 +1,4 @@
 pub mod Numbers
-mod Clock
 mod RunSchedules
 mod Outcomes
 mod Folds
@@ -13,4 +12,3 @@ mod Starting
 mod Logs
 mod Handed
 mod Saying
-mod ClockOnce

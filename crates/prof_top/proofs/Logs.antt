@@ -26,14 +26,14 @@ use Rattle.record_text.specs.declared.schedule.What.TheVariants.{Sampled, Start,
 use Rattle.record_text.specs.declared.schedule.ScheduleEntry.{ScheduleEntry}
 use Rattle.session_book.proofs.OfCalls.{running_sessions_are_seen}
 use Rattle.session_book.specs.Book.{BookParts, StandsFor, running}
-use Rattle.prof_top.proofs.Clock.{last_pushed}
+use Rattle.step_clock.proofs.Clock.{last_pushed}
 use Rattle.prof_top.proofs.FinishedProfiles.{IsStopOf, given_at_finish, given_fits}
 use Rattle.prof_top.proofs.RunSchedules.{few_entries, run_schedule}
 use Rattle.prof_top.proofs.SeenRuns.{unended_before, exact_before, one_runs, one_ends, seen_of_halt}
 use Rattle.prof_top.proofs.Straight.{never_gives_up}
 use Rattle.prof_top.specs.Log.{seen_before, IsLog, HaltsAt, IsRecorded}
 use Rattle.prof_top.specs.RunSchedule.{IsHead}
-use Rattle.prof_top.specs.StepClock.{entry_at, is_asked, entries_before, last_step, IsWholeRecording}
+use Rattle.step_clock.specs.StepClock.{entry_at, is_asked, entries_before, last_step, IsWholeRecording}
 use Rattle.prof_top.specs.Straight.{IsAfter}
 use Rattle.prof_top.specs.declared.recording.TheConstants.{BUDGET, ENTRIES}
 

@@ -12,9 +12,9 @@ use Rattle.record_text.specs.ScheduleParts.{ScheduleParts}
 use Rattle.record_text.specs.declared.schedule.EndCause.TheVariants as cause
 use Rattle.record_text.specs.declared.schedule.What.TheVariants.{Sampled, End}
 use Rattle.record_text.specs.declared.schedule.ScheduleEntry.{ScheduleEntry}
-use Rattle.prof_top.proofs.Clock.{few_more, clocks_are_legal, clocks_fit}
+use Rattle.step_clock.proofs.Clock.{few_more, clocks_are_legal, clocks_fit}
 use Rattle.prof_top.specs.RunSchedule.{IsHead, IsRunSchedule}
-use Rattle.prof_top.specs.StepClock.{entry_at, is_asked, samples_before, entries_before, last_step, with_end, IsWholeRecording, EndsWithin, IsStepClock}
+use Rattle.step_clock.specs.StepClock.{entry_at, is_asked, samples_before, entries_before, last_step, with_end, IsWholeRecording, EndsWithin, IsStepClock}
 use Rattle.prof_top.specs.Straight.{straight_state}
 use Rattle.prof_top.specs.declared.recording.TheConstants.{BUDGET, ENTRIES}
 

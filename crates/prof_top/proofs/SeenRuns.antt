@@ -28,9 +28,9 @@ use Rattle.record_text.specs.Source.{gcd, source_for}
 use Rattle.record_text.specs.declared.schedule.EndCause.TheVariants as cause
 use Rattle.record_text.specs.declared.schedule.What.TheVariants.{Sampled, Start, End}
 use Rattle.record_text.specs.declared.schedule.ScheduleEntry.{ScheduleEntry}
-use Rattle.prof_top.proofs.Clock.{samples_start_none}
+use Rattle.step_clock.proofs.Clock.{samples_start_none}
 use Rattle.prof_top.specs.Log.{ticks_before, seen_before}
-use Rattle.prof_top.specs.StepClock.{entry_at, is_asked, samples_before, entries_before}
+use Rattle.step_clock.specs.StepClock.{entry_at, is_asked, samples_before, entries_before}
 use Rattle.prof_top.specs.Straight.{straight_state}
 
 -- what is seen of the entries alone

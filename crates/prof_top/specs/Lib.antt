@@ -1,6 +1,5 @@
 pub mod Asked
 pub mod Causes
-pub mod ClockLaws
 pub mod Command
 pub mod Ending
 pub mod HandedOut
@@ -11,7 +10,6 @@ pub mod Product
 pub mod RunSchedule
 pub mod Said
 pub mod Status
-pub mod StepClock
 pub mod Straight
 pub mod Task
 pub mod Written

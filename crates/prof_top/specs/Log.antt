@@ -17,7 +17,7 @@ use Rattle.record_text.specs.ScheduleParts.{ScheduleParts}
 use Rattle.session_book.specs.Book.{BookParts, StandsFor}
 use Rattle.prof_top.specs.PrintedText.{one_file, file_line, printed_text}
 use Rattle.prof_top.specs.RunSchedule.{IsHead, IsRunSchedule}
-use Rattle.prof_top.specs.StepClock.{is_asked, entries_before, last_step, IsWholeRecording}
+use Rattle.step_clock.specs.StepClock.{is_asked, entries_before, last_step, IsWholeRecording}
 use Rattle.prof_top.specs.Straight.{straight_state}
 
 -- the ticks of the samples that are taken after fewer steps than this

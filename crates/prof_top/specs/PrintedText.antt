@@ -13,7 +13,7 @@ use Rattle.record_text.specs.declared.schedule.EndCause.TheVariants as cause
 use Rattle.record_text.specs.declared.schedule.What.{What}
 use Rattle.record_text.specs.declared.schedule.What.TheVariants.{Dropped, End}
 use Rattle.record_text.specs.declared.schedule.ScheduleEntry.{ScheduleEntry}
-use Rattle.prof_top.specs.StepClock.{last_step}
+use Rattle.step_clock.specs.StepClock.{last_step}
 
 -- the word that names why a run ended
 abbrev pub end_word : EndCause → List ℕ

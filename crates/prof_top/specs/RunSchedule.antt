@@ -5,7 +5,7 @@ use Rattle.isolate.specs.Fits.{Fits}
 use Rattle.record_text.specs.Schedule.{IsLegalSchedule}
 use Rattle.record_text.specs.ScheduleParts.{ScheduleParts}
 use Rattle.record_text.specs.declared.limits.TheConstants.{DEFAULT_RING}
-use Rattle.prof_top.specs.StepClock.{IsStepClock}
+use Rattle.step_clock.specs.StepClock.{IsStepClock}
 use Rattle.prof_top.specs.declared.recording.TheConstants.{BUDGET, ENTRIES}
 
 -- what precedes the entries: the interval as the base, the ring, the budget of steps and the limit of entries

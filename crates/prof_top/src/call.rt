@@ -13,7 +13,7 @@ ghost use Rattle.prof_top.specs.Outcome.{IsAfterWork, IsBeforeWork, IsWorked, Ha
 ghost use Rattle.prof_top.specs.RunSchedule.{IsHead};
 ghost use Rattle.prof_top.specs.Said.{IsNamed, IsSaid};
 ghost use Rattle.prof_top.specs.Status.{IsStatus, StopsReading, refusal_of};
-ghost use Rattle.prof_top.specs.StepClock.{IsStepClock};
+ghost use Rattle.step_clock.specs.StepClock.{IsStepClock};
 ghost use Rattle.prof_top.specs.Task.{IsReady, OfRun};
 
 use crate::ending::{Ending, report};

@@ -9,7 +9,7 @@ ghost use Rattle.isolate.specs.PlainFile.{tick_at};
 ghost use Rattle.session_book.specs.Book.{StandsFor, running};
 ghost use Rattle.session_book.specs.Session.{paths_over};
 ghost use Rattle.prof_top.specs.Log.{IsLog, HaltsAt, IsRecorded};
-ghost use Rattle.prof_top.specs.StepClock.{entry_at, is_asked, IsWholeRecording};
+ghost use Rattle.step_clock.specs.StepClock.{entry_at, is_asked, IsWholeRecording};
 ghost use Rattle.prof_top.specs.Straight.{IsAfter};
 
 use crate::machine::Machine;

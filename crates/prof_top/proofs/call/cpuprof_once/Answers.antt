@@ -5,7 +5,7 @@ use Rattle.prof_top.proofs.Lines.{readable_at_last}
 use Rattle.prof_top.proofs.call.cpuprof_once.Goals as goal
 use Rattle.prof_top.specs.Ending.{status_of}
 use Rattle.prof_top.specs.RunSchedule.{IsHead}
-use Rattle.prof_top.specs.StepClock.{IsStepClock}
+use Rattle.step_clock.specs.StepClock.{IsStepClock}
 use Rattle.prof_top.specs.declared.recording.TheConstants.{BUDGET, ENTRIES}
 
 pub returns-clause-readable : goal.returns-clause-readable

@@ -17,11 +17,11 @@ use Rattle.record_text.specs.declared.schedule.EndCause.TheVariants as cause
 use Rattle.record_text.specs.declared.schedule.What.{What}
 use Rattle.record_text.specs.declared.schedule.What.TheVariants.{Sampled, Start, End}
 use Rattle.record_text.specs.declared.schedule.ScheduleEntry.{ScheduleEntry}
-use Rattle.prof_top.specs.ClockLaws.{ClocksAreLegal, ClocksFit}
-use Rattle.prof_top.specs.StepClock.{entry_at, is_asked, samples_before, entries_before, last_step, EndsWithin}
+use Rattle.step_clock.specs.ClockLaws.{ClocksAreLegal, ClocksFit}
+use Rattle.step_clock.specs.StepClock.{entry_at, is_asked, samples_before, entries_before, last_step, EndsWithin}
 
 -- not an end, and at an earlier step and time
-record IsEarlier (moment : ℕ) (entry : ScheduleEntry) : Type 0 where
+pub record IsEarlier (moment : ℕ) (entry : ScheduleEntry) : Type 0 where
   pub step : entry.step < moment
   pub time : entry.time < moment
   pub no_end : is_end entry.what ≡ false
@@ -38,7 +38,7 @@ samples_earlier every (suc step) =
     (λ asked. all_pushed (IsEarlier (suc step)) (samples_before every step) (entry_at step Sampled) before (record { step = omega arith; time = omega arith; no_end = refl }))
     (λ not. subst (AllByRecursion (IsEarlier (suc step))) (sym (append-nil (samples_before every step))) before)
 
-entries_earlier : (options : Options) (step moment : ℕ) → step ≤ moment → 1 ≤ moment → AllByRecursion (IsEarlier moment) (entries_before options step)
+pub entries_earlier : (options : Options) (step moment : ℕ) → step ≤ moment → 1 ≤ moment → AllByRecursion (IsEarlier moment) (entries_before options step)
 entries_earlier options step moment within some = (
   record { step = some; time = some; no_end = refl },
   all_mapped (IsEarlier step) (IsEarlier moment) (samples_before options.interval step)
@@ -72,7 +72,7 @@ samples_start_none every (suc step) course =
     (λ not. course_on_more course (samples_before every step) [] ∙ samples_start_none every step course)
 
 -- one session runs
-one_runs : (options : Options) (step : ℕ) → length (running_after (entries_before options step)) ≡ 1
+pub one_runs : (options : Options) (step : ℕ) → length (running_after (entries_before options step)) ≡ 1
 one_runs options step =
     let course = course_after none_yet (Start options) in
     ap (λ (c : Course). length c.running) (samples_start_none options.interval step course)
@@ -91,7 +91,7 @@ ends_so : (entries : List ScheduleEntry) (step : ℕ) (cause : EndCause) → has
 ends_so [] step cause = refl
 ends_so (entry ∷ entries) step cause = or_true (is_end entry.what) (has_end (entries ++ entry_at step (End cause) ∷ [])) (ends_so entries step cause)
 
-pushed_length : {X : Type 0} (xs : List X) (x : X) → length (xs ++ x ∷ []) ≡ suc (length xs)
+pub pushed_length : {X : Type 0} (xs : List X) (x : X) → length (xs ++ x ∷ []) ≡ suc (length xs)
 pushed_length xs x = omega (arith, length-append xs (x ∷ []))
 
 asked_late : (every step : ℕ) → is_asked every step ≡ true → 1 ≤ step

@@ -13,9 +13,9 @@ use Rattle.isolate.specs.Fits.{IsGoing, EndsAt}
 use Rattle.record_text.specs.declared.schedule.EndCause.{EndCause}
 use Rattle.record_text.specs.declared.schedule.EndCause.TheVariants as cause
 use Rattle.record_text.specs.declared.schedule.What.TheVariants.{End}
-use Rattle.prof_top.proofs.Clock.{within_or_past}
-use Rattle.prof_top.specs.ClockLaws.{ClocksRun, ClocksAgree}
-use Rattle.prof_top.specs.StepClock.{entry_at, entries_before, with_end, IsWholeRecording, EndsWithin}
+use Rattle.step_clock.proofs.Clock.{within_or_past}
+use Rattle.step_clock.specs.ClockLaws.{ClocksRun, ClocksAgree}
+use Rattle.step_clock.specs.StepClock.{entry_at, entries_before, with_end, IsWholeRecording, EndsWithin}
 
 -- the cause for which a run ends where its machine ends in this way
 abbrev cause_of : Ended → EndCause
@@ -24,19 +24,19 @@ cause_of ended.Overflow = cause.Overflow
 cause_of ended.OffEnd = cause.OffEnd
 
 -- a run that ends with its machine
-record EndsItself (funcs : List Func) (budget step : ℕ) (why : EndCause) : Type 0 where
+pub record EndsItself (funcs : List Func) (budget step : ℕ) (why : EndCause) : Type 0 where
   pub how : Ended
   pub cause_is : why ≡ cause_of how
   pub within : step ≤ budget
   pub at : EndsAt funcs step how
 
 -- a run that is ended by its budget
-record IsStopped (funcs : List Func) (budget step : ℕ) (why : EndCause) : Type 0 where
+pub record IsStopped (funcs : List Func) (budget step : ℕ) (why : EndCause) : Type 0 where
   pub cause_is : why ≡ cause.Budget
   pub spent : step ≡ budget
   pub going : IsGoing funcs step
 
-either_end : (funcs : List Func) (budget step : ℕ) (why : EndCause) → EndsWithin funcs budget step why → EndsItself funcs budget step why ⊎ IsStopped funcs budget step why
+pub either_end : (funcs : List Func) (budget step : ℕ) (why : EndCause) → EndsWithin funcs budget step why → EndsItself funcs budget step why ⊎ IsStopped funcs budget step why
 either_end funcs budget step cause.Halt ends = inl (record { how = ended.Halt; cause_is = refl; within = ends.0; at = ends.1 })
 either_end funcs budget step cause.Overflow ends = inl (record { how = ended.Overflow; cause_is = refl; within = ends.0; at = ends.1 })
 either_end funcs budget step cause.OffEnd ends = inl (record { how = ended.OffEnd; cause_is = refl; within = ends.0; at = ends.1 })
@@ -45,7 +45,7 @@ either_end funcs budget step cause.Full ends = absurd ends
 either_end funcs budget step cause.Memory ends = absurd ends
 
 -- the machine does not go on once it has ended
-over_before : (funcs : List Func) (step later : ℕ) (how : Ended) → (plain funcs step).ended ≡ Some how → step ≤ later → IsGoing funcs later → ⊥
+pub over_before : (funcs : List Func) (step later : ℕ) (how : Ended) → (plain funcs step).ended ≡ Some how → step ≤ later → IsGoing funcs later → ⊥
 over_before funcs step later how over before going =
     let still : (plain funcs step).ended ≡ None = going_before funcs step later before going in
     let both : Some how ≡ None = sym over ∙ still in cc
@@ -105,7 +105,7 @@ clocks_agree funcs every budget limit entries others one two =
     one.made ∙ ((λ k. with_end limit (entries_before (options k) (ends.steps k)) (entry_at (ends.steps k) (End (ends.causes k)))) ∙ sym two.made)
 
 -- an end of a run
-record HasEnd (funcs : List Func) (budget : ℕ) : Type 0 where
+pub record HasEnd (funcs : List Func) (budget : ℕ) : Type 0 where
   pub step : ℕ
   pub why : EndCause
   pub ends : EndsWithin funcs budget step why
@@ -122,7 +122,7 @@ more_budget funcs budget going (Some how) found =
     let same : budget ≡ suc budget - 1 = omega arith in
     itself funcs (suc budget) (suc budget) how (omega arith) (subst (IsGoing funcs) same going, found)
 
-has_end : (funcs : List Func) (budget : ℕ) → HasEnd funcs budget
+pub has_end : (funcs : List Func) (budget : ℕ) → HasEnd funcs budget
 has_end funcs zero = record { step = 0; why = cause.Budget; ends = (refl, refl) }
 has_end funcs (suc budget) =
     let before = has_end funcs budget in

@@ -6,7 +6,7 @@ use Rattle.isolate.specs.Fits.{Fits}
 use Rattle.record_text.specs.Schedule.{IsLegalSchedule}
 use Rattle.record_text.specs.ScheduleParts.{ScheduleParts}
 use Rattle.record_text.specs.declared.schedule.ScheduleEntry.{ScheduleEntry}
-use Rattle.prof_top.specs.StepClock.{IsStepClock}
+use Rattle.step_clock.specs.StepClock.{IsStepClock}
 
 -- with a budget of at least 1 and a limit of at least 2, they keep the rules
 abbrev pub ClocksAreLegal : Type 0

@@ -1,5 +1,0 @@
-use Rattle.prof_top.proofs.ClockOnce.{clocks_run, clocks_agree}
-use Rattle.prof_top.proofs.laws.the_step_clock_has_one_schedule.Goals as goal
-
-pub returns : goal.returns
-returns c = record { one = clocks_run; no_other = clocks_agree }

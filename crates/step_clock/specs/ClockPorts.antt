@@ -1,0 +1,12 @@
+-- The calls of the step clock's ports, as an isolate sees them.
+use Rattle.isolate_acts.specs.Calls.{Call, commanded, answered, asked, read, told}
+use Rattle.step_clock.specs.declared.ports.ClockCall.{ClockCall}
+use Rattle.step_clock.specs.declared.ports.ClockCall.TheVariants as made
+
+-- a call that was made, with what it returned
+abbrev pub call_of : ClockCall → Call
+call_of (made.Commanded port step given) = commanded port step given
+call_of (made.Answered port answer place is_taken) = answered port answer place is_taken
+call_of (made.Asked step result) = asked step result
+call_of (made.Read step now) = read step now
+call_of (made.Told interval) = told interval

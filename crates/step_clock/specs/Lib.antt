@@ -1,0 +1,5 @@
+pub mod StepClock
+pub mod ClockLaws
+pub mod ClockCalls
+pub mod ClockTurns
+pub mod ClockPorts
