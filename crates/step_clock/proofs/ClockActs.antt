@@ -19,7 +19,7 @@ use Rattle.isolate_acts.proofs.SchedulePhases.{chosen}
 use Rattle.isolate_acts.specs.Acts.{Act, passes, starts, stops, refuses, cuts_off, asks, samples, steps, ends, ends_short, act_after, act_calls, moment_after}
 use Rattle.isolate_acts.specs.FitsSoFar.{FitsSoFar}
 use Rattle.isolate_acts.specs.Phases.{Phase, at_port, asking, sampling, stepping, closing, must_end, MayAct, IsDue, IsRefused, after_command, after_ports, unless_ended}
-use Rattle.isolate_acts.specs.Progress.{Moment, Progress, IsWithin, entry_count, entry_now, is_filled, running_now}
+use Rattle.isolate_acts.specs.Progress.{Moment, Progress, IsWithin, entry_count, entry_now, entry_time, is_filled, running_now}
 use Rattle.isolate_acts.specs.Sampling.{after_sample}
 use Rattle.step_clock.specs.ClockCalls.{begun_on}
 use Rattle.step_clock.specs.ClockTurns.{IsClockEnd}
@@ -46,13 +46,15 @@ same_le : (n : ℕ) → n ≤ n
 same_le n = omega arith
 
 -- an isolate has ended out of memory, at the step that is reached
-short : (r : Options) (moment : Moment) (p q : Progress) (entry : ScheduleEntry) → moment.steps ≡ p.step → q.ending ≡ Some cause.Memory → q.step ≡ p.step → entry.step ≡ p.step
-    → q.schedule.entries ≡ p.schedule.entries ++ entry ∷ [] → IsClockEnd r.interval moment q
-short r moment p q entry at ending same is entries = record {
+short : (r : Options) (moment : Moment) (p q : Progress) (time : ℕ) → moment.steps ≡ p.step → q.ending ≡ Some cause.Memory → q.step ≡ p.step
+    → q.schedule.entries ≡ p.schedule.entries ++ record { step = p.step; time = time; what = End cause.Memory } ∷ [] → IsClockEnd r.interval moment q
+short r moment p q time at ending same entries = record {
   why = cause.Memory;
   ending = ending;
   steps = at ∙ sym same;
-  last = ap last_step entries ∙ last_pushed p.schedule.entries entry ∙ is ∙ sym same;
+  before = p.schedule.entries;
+  time = time;
+  entries = entries ∙ ap (λ (n : ℕ). p.schedule.entries ++ record { step = n; time = time; what = End cause.Memory } ∷ []) (sym same);
   clock = λ other. absurd (other refl);
 }
 
@@ -167,7 +169,9 @@ module _ (r : Options) (moment : Moment) (p : Progress) (whole : IsWholeRecordin
         why = why;
         ending = refl;
         steps = at.steps_are;
-        last = ap last_step made ∙ last_pushed p.schedule.entries (entry_at p.step (End why));
+        before = p.schedule.entries;
+        time = entry_time p now;
+        entries = refl;
         clock = λ other.
             ends_on_clock moment.funcs r.interval p.schedule.budget p.schedule.limit r p.step why after.schedule.entries whole
             (due_within moment p at p.schedule.budget why refl within.step due) (has_room (entry_count p) p.schedule.limit (length (entries_before r p.step)) room place size)
@@ -189,7 +193,9 @@ module _ (r : Options) (moment : Moment) (p : Progress) (whole : IsWholeRecordin
         why = why;
         ending = refl;
         steps = at.steps_are;
-        last = ap last_step made ∙ last_pushed p.schedule.entries (entry_at p.step (End cause.Full));
+        before = p.schedule.entries;
+        time = entry_time p now;
+        entries = refl;
         clock = λ other.
             full_on_clock moment.funcs r.interval p.schedule.budget p.schedule.limit r p.step after.schedule.entries whole at.machine below
             (is_full_size (entry_count p) p.schedule.limit (length (entries_before r (suc p.step))) filled size) (sym (ap last_step entries) ∙ last)
@@ -216,7 +222,7 @@ act_on r begun moment p (at_port port commands) next (refuses from given why is_
 act_on r begun moment p (at_port port commands) next (cuts_off from given is_marked now is_taken) whole within small fits may by taken at = record {
   going = λ going. absurd (cc going);
   below = λ going open_. absurd (cc going);
-  ended = λ over_. short r moment p (act_after moment p (cuts_off from given is_marked now is_taken)) (entry_now p now (End cause.Memory)) (((fits may.1).going may.1).steps_are) refl refl refl refl;
+  ended = λ over_. short r moment p (act_after moment p (cuts_off from given is_marked now is_taken)) (entry_time p now) (((fits may.1).going may.1).steps_are) refl refl refl;
 }
 act_on r begun moment p asking next (asks is_asked_) whole within small fits may by taken at = ask_on r moment p whole within small begun is_asked_ next may.3 by.0 at
 act_on r begun moment p sampling next (samples now true) whole within small fits may by taken at = sample_on r moment p whole within small begun now next may.2 may.0 by.0 at
@@ -231,7 +237,7 @@ act_on r begun moment p stepping next (steps after events) whole within small fi
 act_on r begun moment p stepping next (ends_short events now) whole within small fits may by taken at = record {
   going = λ going. absurd (cc going);
   below = λ going open_. absurd (cc going);
-  ended = λ over_. short r moment p (act_after moment p (ends_short events now)) (entry_now p now (End cause.Memory)) (((fits may.0.going).going may.0.going).steps_are) refl refl refl refl;
+  ended = λ over_. short r moment p (act_after moment p (ends_short events now)) (entry_time p now) (((fits may.0.going).going may.0.going).steps_are) refl refl refl;
 }
 act_on r begun moment p closing next (ends why now) whole within small fits may by taken at =
     let had = at.going may.0.going in

@@ -89,7 +89,7 @@ abbrev whole : (every : ℕ) → 1 ≤ every → every ≤ 1000000000 → Option
 whole every low high = record { port = 0; interval = every; mode = Leaf; max_samples = None; low = low; high = high }
 
 -- two options of whole recordings are the same
-one_whole : (every : ℕ) (low : 1 ≤ every) (high : every ≤ 1000000000) (options : Options) → IsWholeRecording every options → options ≡ whole every low high
+pub one_whole : (every : ℕ) (low : 1 ≤ every) (high : every ≤ 1000000000) (options : Options) → IsWholeRecording every options → options ≡ whole every low high
 one_whole every low high options is =
     let Same : ℕ → Type 0 = λ interval. (l : 1 ≤ interval) (h : interval ≤ 1000000000)
     → record { port = options.port; interval = interval; mode = options.mode; max_samples = options.max_samples; low = l; high = h } ≡ whole every low high in

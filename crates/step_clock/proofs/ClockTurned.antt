@@ -16,8 +16,8 @@ use Rattle.isolate_acts.specs.Phases.{Phase, at_port, stepping, closing, must_en
 use Rattle.isolate_acts.specs.Progress.{Moment, Progress, IsWithin, entry_now, goes_on, is_filled}
 use Rattle.isolate_ends.specs.Runs.{Adds, is_dropped}
 use Rattle.step_clock.specs.ClockCalls.{begun_on}
-use Rattle.step_clock.specs.ClockTurns.{IsClockTurn, IsOnClock, SameHead, TurnsKeepHeads, TurnsStayOnClock}
-use Rattle.step_clock.specs.StepClock.{IsWholeRecording}
+use Rattle.step_clock.specs.ClockTurns.{IsClockTurn, IsOnClock, TurnsStayOnClock}
+use Rattle.step_clock.specs.StepClock.{IsWholeRecording, entries_before}
 use Rattle.step_clock.proofs.ClockActs.{act_on}
 use Rattle.step_clock.proofs.ClockCalled.{EachByClock, each_by_clock, begun_on-append, first_calls, later_calls}
 use Rattle.step_clock.proofs.ClockPhases.{DropsNone, IsAt}
@@ -77,7 +77,7 @@ small_step p within =
     omega (arith, step, budget, few)
 
 -- the guest runs its own program
-own_program : (funcs : List Func) (moment : Moment) (p : Progress) (phase : Phase) → FitsSoFar funcs moment p phase → p.ending ≡ None → FitsSoFar moment.funcs moment p phase
+pub own_program : (funcs : List Func) (moment : Moment) (p : Progress) (phase : Phase) → FitsSoFar funcs moment p phase → p.ending ≡ None → FitsSoFar moment.funcs moment p phase
 own_program funcs moment p phase fits going = subst (λ (f : List Func). FitsSoFar f moment p phase) (sym (fits.going going).funcs_are) fits
 
 pub run_on : (r : Options) (funcs : List Func) (begun : Bool) (moment : Moment) (p : Progress) (phase last : Phase) (acts : List Act) → IsWholeRecording r.interval r → IsWithin p
@@ -115,14 +115,22 @@ begins r begun moment p on =
     })
 
 -- where a turn is over
-turned : (r : Options) (begun : Bool) (moment : Moment) (p : Progress) (last : Phase) → IsOver moment p last → IsAt r begun moment p last → IsClockTurn r moment p
+turned : (r : Options) (begun : Bool) (moment : Moment) (p : Progress) (last : Phase) → IsOver moment p last → IsAt r begun moment p last → IsClockTurn r begun moment p
 turned r begun moment p closing is at = record {
   goes = λ going.
       let had = at.going going in
-      record { going = going; fresh = had.2; room = had.1; first = λ not_yet. absurd (cc not_yet); below = is.0.budget; entries = had.3 };
+      record {
+        going = going;
+        fresh = had.2;
+        room = had.1;
+        first = λ not_yet. let both = had.0 in absurd (cc (both, not_yet));
+        below = is.0.budget;
+        entries = had.3 ∙ ap (λ (b : Bool). if b then entries_before r p.step else []) (sym had.0);
+      };
+  has_begun = λ going. (at.going going).0;
   ends = at.ended;
 }
-turned r begun moment p over is at = record { goes = λ going. absurd (is going); ends = at.ended }
+turned r begun moment p over is at = record { goes = λ going. absurd (is going); has_begun = λ going. absurd (is going); ends = at.ended }
 turned r begun moment p last is at = absurd is
 
 added_none : (before after : List ScheduleEntry) → Adds before after 0 → dropped_in after ≤ dropped_in before
@@ -149,23 +157,3 @@ new_on_clock r p going fresh first empty places steps_ = record {
 } where
   not_full : (limit : ℕ) → 2 ≤ limit → (1 == limit) ≡ false
   not_full limit places = grind (arith, nat_tests)
-
-same_head : (moment : Moment) (p : Progress) (act : Act) → SameHead p.schedule (act_after moment p act).schedule
-same_head moment p (passes port) = record { base = refl; ring = refl; budget = refl; limit = refl }
-same_head moment p (starts options now is_taken) = record { base = refl; ring = refl; budget = refl; limit = refl }
-same_head moment p (stops port number now is_taken) = record { base = refl; ring = refl; budget = refl; limit = refl }
-same_head moment p (refuses port given why is_taken) = record { base = refl; ring = refl; budget = refl; limit = refl }
-same_head moment p (cuts_off port given is_marked now is_taken) = record { base = refl; ring = refl; budget = refl; limit = refl }
-same_head moment p (asks is_asked) = record { base = refl; ring = refl; budget = refl; limit = refl }
-same_head moment p (samples now true) = record { base = refl; ring = refl; budget = refl; limit = refl }
-same_head moment p (samples now false) = record { base = refl; ring = refl; budget = refl; limit = refl }
-same_head moment p (steps after events) = record { base = refl; ring = refl; budget = refl; limit = refl }
-same_head moment p (ends why now) = record { base = refl; ring = refl; budget = refl; limit = refl }
-same_head moment p (ends_short events now) = record { base = refl; ring = refl; budget = refl; limit = refl }
-
-pub keep_heads : TurnsKeepHeads
-keep_heads moment p [] = record { base = refl; ring = refl; budget = refl; limit = refl }
-keep_heads moment p (act ∷ acts) =
-    let one = same_head moment p act in
-    let rest = keep_heads (moment_after moment act) (act_after moment p act) acts in
-    record { base = rest.base ∙ one.base; ring = rest.ring ∙ one.ring; budget = rest.budget ∙ one.budget; limit = rest.limit ∙ one.limit }

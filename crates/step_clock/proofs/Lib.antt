@@ -8,3 +8,4 @@ pub mod ClockPhases
 pub mod ClockActs
 pub mod ClockTurned
 pub mod ClockTicks
+pub mod ClockFiles

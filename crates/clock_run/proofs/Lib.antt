@@ -1,0 +1,3 @@
+mod Turn
+mod Ended
+mod Begun

@@ -1,0 +1,6 @@
+mod Heads
+mod Rings
+mod Passed
+mod Handed
+mod Turned
+mod Opened
