@@ -1,14 +1,11 @@
 pub mod Numbers
-mod RunSchedules
 mod Outcomes
 mod Folds
 mod Lines
 mod TicksAndEvents
-mod Straight
-mod SeenRuns
-mod FinishedProfiles
-mod Paths
-mod Starting
-mod Logs
+mod Endings
 mod Handed
 mod Saying
+mod Named
+mod Ends
+mod Runs

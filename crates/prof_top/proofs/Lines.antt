@@ -10,7 +10,7 @@ use Rattle.prof_top.specs.Ending.{ending_of, status_of}
 use Rattle.prof_top.specs.Said.{IsNamed}
 use Rattle.prof_top.specs.Status.{StopsReading}
 use Rattle.prof_top.specs.declared.ending.Ending.{Ending}
-use Rattle.prof_top.specs.declared.ending.Ending.TheVariants.{Done, Usage, ProgramRefused, Missing, CannotRead, CannotWrite, Memory, ItemsRefused, Aborted}
+use Rattle.prof_top.specs.declared.ending.Ending.TheVariants.{Done, Usage, ProgramRefused, Missing, CannotRead, CannotWrite, Memory, Trapped, BudgetSpent, ItemsRefused, ScheduleFull, Aborted}
 use Rattle.prof_top.specs.declared.load.Unread.{Unread}
 use Rattle.prof_top.specs.declared.load.Unread.TheVariants as unread
 use Rattle.prof_top.specs.declared.words.CommandLine.{CommandLine}
@@ -40,7 +40,7 @@ pub named_of : (words : List (List ℕ)) (held : Option FileMap) (line : Command
     → IsNamed words held (ending_of why name)
 named_of words held line kind name misses misses' faults faults' unread.Missing means has is = (line, means, asked_as kind name, has, refl)
 named_of words held line kind name misses misses' faults faults' unread.CannotRead means has is = (line, means, asked_as kind name, has, refl)
-named_of words held line kind name misses misses' faults faults' (unread.ProgramRefused at cause) means has is = (line, means, asked_as kind name, has, (is.0, refl))
+named_of words held line kind name misses misses' faults faults' (unread.ProgramRefused at cause) means has is = (line, means, asked_as kind name, has, (is.0, (refl, is.2)))
 named_of words held line kind name misses misses' faults faults' (unread.ItemsRefused at cause) means has is = (line, means, asked_as kind name, has, (is.0, is.2))
 named_of words held line kind name misses misses' faults faults' unread.Memory means has is = tt
 
@@ -64,6 +64,9 @@ stops_reading words held misses misses' faults faults' (CannotRead name) is = in
 stops_reading words held misses misses' faults faults' (ItemsRefused at cause) is = inr (inr (inr (inr (inr refl))))
 stops_reading words held misses misses' faults faults' Done is = absurd is
 stops_reading words held misses misses' faults faults' CannotWrite is = absurd is
+stops_reading words held misses misses' faults faults' (Trapped trap step) is = absurd is
+stops_reading words held misses misses' faults faults' (BudgetSpent steps) is = absurd is
+stops_reading words held misses misses' faults faults' ScheduleFull is = absurd is
 stops_reading words held misses misses' faults faults' Aborted is = absurd is
 
 -- what the words ask for can be read, or the call stopped reading, also once the line of error was written

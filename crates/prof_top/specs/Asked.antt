@@ -2,7 +2,10 @@
 use Rattle.std.specs.Prelude.{◌≡◌, ℕ, List, [], ◌∷◌, Contains, Option, None, IfSome, IsSomeAnd}
 use Rattle.std.specs.List.{AllByRecursion}
 use Rattle.prof_outer.specs.Files.{FileMap, file_at}
-use Rattle.guest_text.specs.Straight.{HasReading as IsProgramText}
+use Rattle.guest_program.specs.Program.{IsProgram}
+use Rattle.guest_program.specs.declared.instr.Func.{Func}
+use Rattle.guest_text.specs.ProgramText.{Spells as SpellsProgram, IsRefusedAt as IsProgramRefusedAt}
+use Rattle.guest_text.specs.declared.refused.ProgramCause.{ProgramCause}
 use Rattle.item_text.specs.Items.{IsItemList, Spells, IsRefusedAt}
 use Rattle.item_text.specs.declared.items.ItemList.{ItemList}
 use Rattle.record_text.specs.declared.refused.LineCause.{LineCause}
@@ -10,7 +13,7 @@ use Rattle.prof_top.specs.Command.{Means}
 use Rattle.prof_top.specs.declared.words.CommandLine.{CommandLine}
 use Rattle.prof_top.specs.declared.words.CommandLine.TheVariants.{Run, Fold}
 
--- what a text has to be: a program that can be read today, or an item list
+-- what a text has to be: a program, or an item list
 pub data Kind : Type 0 where
   guest_program : Kind
   item_list : Kind
@@ -30,7 +33,7 @@ asked (Fold items) = asked_as item_list items ∷ []
 
 -- the text has a reading of this kind
 abbrev pub HasReading : Kind → List ℕ → Type 0
-HasReading guest_program text = IsProgramText text
+HasReading guest_program text = (funcs : List Func) × IsProgram funcs × SpellsProgram text funcs
 HasReading item_list text = (list : ItemList) × IsItemList list × Spells text list
 
 -- where its files can be observed, the depot has none under the name
@@ -48,6 +51,10 @@ HoldsUnreadable held text = Holds held text.name (λ bytes. ¬ HasReading text.k
 -- what it has under the name can be read
 abbrev pub MayRead : Option FileMap → Asked → Type 0
 MayRead held text = Holds held text.name (HasReading text.kind)
+
+-- what it has under the name is no program, and its first fault is at this line and has this cause
+abbrev pub HoldsProgramFault : Option FileMap → List ℕ → ℕ → ProgramCause → Type 0
+HoldsProgramFault held name line cause = Holds held name (λ bytes. IsProgramRefusedAt bytes line cause)
 
 -- what it has under the name is no item list, and its first fault is at this line and has this cause
 abbrev pub HoldsFault : Option FileMap → List ℕ → ℕ → LineCause → Type 0

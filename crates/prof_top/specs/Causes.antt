@@ -3,11 +3,11 @@ use Rattle.std.specs.Prelude.{◌≡◌, ℕ, ◌⊎◌, List, Option}
 use Rattle.std.specs.List.{AllByRecursion}
 use Rattle.prof_base.specs.Causes.{Rose}
 use Rattle.prof_outer.specs.Files.{FileMap}
-use Rattle.prof_top.specs.Asked.{Asked, asked, guest_program, item_list, LacksFile, HoldsUnreadable, HoldsFault, MayRead, AsksFor, AsksForKind}
+use Rattle.prof_top.specs.Asked.{Asked, asked, guest_program, item_list, LacksFile, HoldsUnreadable, HoldsFault, HoldsProgramFault, MayRead, AsksFor, AsksForKind}
 use Rattle.prof_top.specs.Command.{IsCommand, Means}
 use Rattle.prof_top.specs.declared.words.CommandLine.{CommandLine}
 use Rattle.prof_top.specs.declared.ending.Ending.{Ending}
-use Rattle.prof_top.specs.declared.ending.Ending.TheVariants.{Done, Usage, ProgramRefused, Missing, CannotRead, CannotWrite, Memory, ItemsRefused, Aborted}
+use Rattle.prof_top.specs.declared.ending.Ending.TheVariants.{Done, Usage, ProgramRefused, Missing, CannotRead, CannotWrite, Memory, Trapped, BudgetSpent, ItemsRefused, ScheduleFull, Aborted}
 use Rattle.prof_top.specs.declared.load.Unread.{Unread}
 use Rattle.prof_top.specs.declared.load.Unread.TheVariants as unread
 
@@ -36,7 +36,8 @@ outside held misses read_faults aborts stream_faults out_faults =
 abbrev pub IsUnreadAs : Option FileMap → Asked → ℕ → ℕ → ℕ → ℕ → Unread → Type 0
 IsUnreadAs held text misses misses' faults faults' unread.Missing = LacksFile held text.name × Rose misses misses'
 IsUnreadAs held text misses misses' faults faults' unread.CannotRead = Rose faults faults'
-IsUnreadAs held text misses misses' faults faults' (unread.ProgramRefused line cause) = (text.kind ≡ guest_program) × HoldsUnreadable held text
+IsUnreadAs held text misses misses' faults faults' (unread.ProgramRefused line cause) =
+    (text.kind ≡ guest_program) × HoldsUnreadable held text × HoldsProgramFault held text.name line cause
 IsUnreadAs held text misses misses' faults faults' (unread.ItemsRefused line cause) =
     (text.kind ≡ item_list) × HoldsUnreadable held text × HoldsFault held text.name line cause
 IsUnreadAs held text misses misses' faults faults' unread.Memory = Unit {0}
@@ -55,11 +56,17 @@ IsStoppedAs words held misses misses' faults faults' (CannotRead name) = IsComma
 IsStoppedAs words held misses misses' faults faults' Memory = Unit {0}
 IsStoppedAs words held misses misses' faults faults' Done = ⊥
 IsStoppedAs words held misses misses' faults faults' CannotWrite = ⊥
+IsStoppedAs words held misses misses' faults faults' (Trapped trap step) = ⊥
+IsStoppedAs words held misses misses' faults faults' (BudgetSpent steps) = ⊥
+IsStoppedAs words held misses misses' faults faults' ScheduleFull = ⊥
 IsStoppedAs words held misses misses' faults faults' Aborted = ⊥
 
 -- why a call ended in this way
 abbrev pub IsEndedAs : List (List ℕ) → Outside → Outside → Ending → Type 0
 IsEndedAs words before now Done = IsReadable words before.held
+IsEndedAs words before now (Trapped trap step) = IsReadable words before.held
+IsEndedAs words before now (BudgetSpent steps) = IsReadable words before.held
+IsEndedAs words before now ScheduleFull = IsReadable words before.held
 IsEndedAs words before now CannotWrite =
     IsReadable words before.held × (Rose before.stream_faults now.stream_faults ⊎ Rose before.out_faults now.out_faults)
 IsEndedAs words before now Aborted = IsReadable words before.held × Rose before.aborts now.aborts

@@ -3,13 +3,11 @@ pub mod Causes
 pub mod Command
 pub mod Ending
 pub mod HandedOut
-pub mod Log
 pub mod Outcome
 pub mod PrintedText
 pub mod Product
 pub mod RunSchedule
 pub mod Said
 pub mod Status
-pub mod Straight
 pub mod Task
 pub mod Written

@@ -1,5 +1,5 @@
 -- What is printed of a run, and of a folded item list.
-use Rattle.std.specs.Prelude.{ℕ, List, [], ◌∷◌, ◌++◌, length, flat_map, count_by, Bool, true, false, not, codes, decimal}
+use Rattle.std.specs.Prelude.{ℕ, List, [], ◌++◌, length, flat_map, count_by, Bool, true, false, not, codes, decimal}
 use Rattle.guest_program.specs.declared.instr.Func.{Func}
 use Rattle.plain_machine.specs.PlainMachine.{plain}
 use Rattle.item_fold.specs.declared.delivery.FileNote.{FileNote}
@@ -56,10 +56,6 @@ note_line note = codes "file " ++ decimal note.session.0 ++ codes " " ++ decimal
 abbrev pub printed_text : List Func → ScheduleParts → List SessionFile → List ℕ
 printed_text funcs schedule files =
     (plain funcs (last_step schedule.entries)).printed ++ schedule_lines schedule.entries ++ flat_map file_line files
-
--- the file of a run's one session
-abbrev pub one_file : List ℕ → List SessionFile
-one_file text = record { session = 1; text = text } ∷ []
 
 abbrev pub is_tick : Item → Bool
 is_tick (item.Event e) = false

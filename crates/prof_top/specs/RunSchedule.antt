@@ -5,8 +5,13 @@ use Rattle.isolate.specs.Fits.{Fits}
 use Rattle.record_text.specs.Schedule.{IsLegalSchedule}
 use Rattle.record_text.specs.ScheduleParts.{ScheduleParts}
 use Rattle.record_text.specs.declared.limits.TheConstants.{DEFAULT_RING}
+use Rattle.isolate_turns.specs.declared.state.IsoConfig.{IsoConfig}
 use Rattle.step_clock.specs.StepClock.{IsStepClock}
-use Rattle.prof_top.specs.declared.recording.TheConstants.{BUDGET, ENTRIES}
+use Rattle.prof_top.specs.declared.run.TheConstants.{BUDGET, ENTRIES}
+
+-- what a run that samples at this interval is opened with
+abbrev pub config_of : ℕ → IsoConfig
+config_of every = record { base = every; ring = DEFAULT_RING; budget = BUDGET; limit = ENTRIES }
 
 -- what precedes the entries: the interval as the base, the ring, the budget of steps and the limit of entries
 pub record IsHead (every : ℕ) (schedule : ScheduleParts) : Type 0 where

@@ -1,24 +1,22 @@
 -- What a command line asks to be done, over the texts that it names.
-use Rattle.std.specs.Prelude.{◌≡◌, ℕ, ◌≤◌, List, Option, Some, IfSome}
+use Rattle.std.specs.Prelude.{ℕ, ◌≤◌, List, Option}
 use Rattle.guest_program.specs.Program.{IsProgram}
-use Rattle.guest_text.specs.ProgramText.{program_text}
-use Rattle.guest_text.specs.Straight.{IsStraight}
+use Rattle.guest_text.specs.ProgramText.{Spells as SpellsProgram}
 use Rattle.guest_program.specs.declared.instr.Func.{Func}
 use Rattle.item_text.specs.Items.{IsItemList, Spells}
 use Rattle.item_text.specs.declared.items.ItemList.{ItemList}
 use Rattle.prof_base.specs.declared.interval.TheConstants.{MAX_INTERVAL}
-use Rattle.prof_outer.specs.Files.{FileMap, file_at}
+use Rattle.prof_outer.specs.Files.{FileMap}
 use Rattle.prof_top.specs.Asked.{Holds}
 use Rattle.prof_top.specs.Command.{Means}
 use Rattle.prof_top.specs.declared.load.Task.{Task}
 use Rattle.prof_top.specs.declared.load.Task.TheVariants as task
 use Rattle.prof_top.specs.declared.words.CommandLine.TheVariants as line
 
--- the program that was read under a name: where the depot's files can be observed, the one whose text is there
+-- the program that was read under a name: where the depot's files can be observed, the one that the text there spells
 pub record IsProgramRead (held : Option FileMap) (name : List ℕ) (funcs : List Func) : Type 0 where
   pub rules : IsProgram funcs
-  pub straight : IsStraight funcs
-  pub text : IfSome held (λ files. file_at files name ≡ Some (program_text funcs))
+  pub text : Holds held name (λ bytes. SpellsProgram bytes funcs)
 
 -- the item list that was read under a name: where the depot's files can be observed, the one that the text there spells
 pub record IsListRead (held : Option FileMap) (name : List ℕ) (list : ItemList) : Type 0 where
@@ -34,7 +32,7 @@ IsLoaded words held (task.Fold list) = (name : List ℕ) × Means words (line.Fo
 abbrev pub OfRun : List (List ℕ) → Option FileMap → (List Func → ℕ → Type 0) → Type 0
 OfRun words held P = (funcs : List Func) × (every : ℕ) × IsLoaded words held (task.Run funcs every) × P funcs every
 
--- it can be done: the program can be run, and the list keeps the rules
+-- it can be done: the interval is in its range, and the list keeps the rules
 abbrev pub IsReady : Task → Type 0
-IsReady (task.Run funcs every) = IsStraight funcs × (1 ≤ every) × (every ≤ MAX_INTERVAL)
+IsReady (task.Run funcs every) = (1 ≤ every) × (every ≤ MAX_INTERVAL)
 IsReady (task.Fold list) = IsItemList list

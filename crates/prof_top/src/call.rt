@@ -7,9 +7,10 @@ ghost use Rattle.record_text.specs.Schedule.{IsLegalSchedule};
 ghost use Rattle.prof_top.specs.Asked.{Kind, AsksFor, AsksForKind, LacksFile, HoldsUnreadable, MayReadAll};
 ghost use Rattle.prof_top.specs.Causes.{IsEndedAs, outside};
 ghost use Rattle.prof_top.specs.Command.{IsCommand, AsksToRun};
-ghost use Rattle.prof_top.specs.Ending.{status_of, IsWorkEnding};
+ghost use Rattle.prof_top.specs.Ending.{status_of, IsDue, IsWorkEnding};
 ghost use Rattle.prof_top.specs.HandedOut.{outlets};
 ghost use Rattle.prof_top.specs.Outcome.{IsAfterWork, IsBeforeWork, IsWorked, HasOutcome};
+ghost use Rattle.prof_top.specs.Product.{MayBeDue};
 ghost use Rattle.prof_top.specs.RunSchedule.{IsHead};
 ghost use Rattle.prof_top.specs.Said.{IsNamed, IsSaid};
 ghost use Rattle.prof_top.specs.Status.{IsStatus, StopsReading, refusal_of};
@@ -19,8 +20,7 @@ ghost use Rattle.prof_top.specs.Task.{IsReady, OfRun};
 use crate::ending::{Ending, report};
 use crate::fold::fold;
 use crate::load::{Task, load};
-use crate::recording::{BUDGET, ENTRIES};
-use crate::run::{Ran, run};
+use crate::run::{BUDGET, ENTRIES, Ran, run};
 use out_stream::OutputStream;
 use prof_base::Sequence;
 use prof_outer::{Depot, Sink};
@@ -33,8 +33,9 @@ pub struct Outcome {
     /// The exit status: 0 where the guest halted, if one was run, and all was delivered and
     /// written, 1 for words that are no command, 2 for a program's text that cannot be read, 3 for a
     /// missing file, 4 for a file that could not be read, 5 for a stream or a sink that failed, 6 for
-    /// out of memory, 10 for an item list's text that cannot be read, and 14 for a stream that
-    /// aborted.
+    /// out of memory, 7 for a guest that trapped, 8 for a budget of steps that was spent, 10 for an
+    /// item list's text that cannot be read, 13 for a schedule that was full, and 14 for a stream
+    /// that aborted.
     pub status: u8,
     /// The schedule of the run that took place: what happened in it, and when. There is none where
     /// nothing ran, and may be none where memory ran out.
@@ -44,27 +45,36 @@ pub struct Outcome {
 }
 
 // Does what a command line asks for, over the texts that it named.
-fn work<S: OutputStream, O: Sink>(alloc: Global, task: &Task, stream: &mut S, out: &mut O) -> Ran
-    requires { IsReady task.now }
+fn work<S: OutputStream, O: Sink>(alloc: Global, task: Task, stream: S, out: &mut O) -> Ran<S>
+    requires { IsReady task }
     // How it may end, and the cause of each.
     ensures ending { IsWorkEnding result.ending }
-    ensures cannot_write { result.ending ≡ Ending.CannotWrite → Rose (S.stream_faults stream.old) (S.stream_faults stream.new) ⊎ Rose (O.faults out.old) (O.faults out.new) }
-    ensures aborted { result.ending ≡ Ending.Aborted → Rose (S.aborts stream.old) (S.aborts stream.new) }
+    ensures due { IsDue result.ending → MayBeDue task result.ending }
+    ensures cannot_write { result.ending ≡ Ending.CannotWrite → Rose (S.stream_faults stream) (S.stream_faults result.stream) ⊎ Rose (O.faults out.old) (O.faults out.new) }
+    ensures aborted { result.ending ≡ Ending.Aborted → Rose (S.aborts stream) (S.aborts result.stream) }
 
     // What has come out.
-    ensures worked { IsWorked task.now (status_of result.ending) result.schedules
-        (outlets (S.parts stream.old) (S.aborts stream.old) (S.stream_faults stream.old) (O.written out.old) (O.faults out.old))
-        (outlets (S.parts stream.new) (S.aborts stream.new) (S.stream_faults stream.new) (O.written out.new) (O.faults out.new)) }
+    ensures worked { IsWorked task (status_of result.ending) result.schedules
+        (outlets (S.parts stream) (S.aborts stream) (S.stream_faults stream) (O.written out.old) (O.faults out.old))
+        (outlets (S.parts result.stream) (S.aborts result.stream) (S.stream_faults result.stream) (O.written out.new) (O.faults out.new)) }
 
     // The stream's size of chunks stays the same, and no count falls.
-    ensures chunk_size { S.chunk_bytes stream.new ≡ S.chunk_bytes stream.old }
-    ensures aborts { S.aborts stream.old ≤ S.aborts stream.new }
-    ensures stream_faults { S.stream_faults stream.old ≤ S.stream_faults stream.new }
+    ensures chunk_size { S.chunk_bytes result.stream ≡ S.chunk_bytes stream }
+    ensures aborts { S.aborts stream ≤ S.aborts result.stream }
+    ensures stream_faults { S.stream_faults stream ≤ S.stream_faults result.stream }
     ensures out_faults { O.faults out.old ≤ O.faults out.new }
 {
     match task {
-        Task::Run { program, every } => run(alloc, program, *every, stream, out),
-        Task::Fold { list } => fold(alloc, list, stream, out),
+        Task::Run { program, every } => run(alloc, program, every, stream, out),
+        Task::Fold { list } => {
+            let mut stream = stream;
+            let ending = fold(alloc, &list, &mut stream, out);
+            Ran {
+                ending,
+                schedules: Sequence::new(alloc),
+                stream,
+            }
+        }
     }
 }
 
@@ -73,12 +83,12 @@ fn load_and_work<D: Depot, S: OutputStream, O: Sink>(
     alloc: Global,
     words: &[String],
     depot: &mut D,
-    stream: &mut S,
+    stream: S,
     out: &mut O,
-) -> Ran
+) -> Ran<S>
     ensures ending { IsEndedAs (map string_bytes words.now)
-        (outside (D.held depot.old) (D.misses depot.old) (D.read_faults depot.old) (S.aborts stream.old) (S.stream_faults stream.old) (O.faults out.old))
-        (outside (D.held depot.new) (D.misses depot.new) (D.read_faults depot.new) (S.aborts stream.new) (S.stream_faults stream.new) (O.faults out.new))
+        (outside (D.held depot.old) (D.misses depot.old) (D.read_faults depot.old) (S.aborts stream) (S.stream_faults stream) (O.faults out.old))
+        (outside (D.held depot.new) (D.misses depot.new) (D.read_faults depot.new) (S.aborts result.stream) (S.stream_faults result.stream) (O.faults out.new))
         result.ending }
     ensures command { (status_of result.ending ≡ 1) ⊎ ((status_of result.ending ≡ 6) ⊎ IsCommand (map string_bytes words.now)) }
     ensures readable { StopsReading (status_of result.ending) ⊎ MayReadAll (D.held depot.old) (map string_bytes words.now) }
@@ -87,22 +97,23 @@ fn load_and_work<D: Depot, S: OutputStream, O: Sink>(
 
     // What was done, and what has come out.
     ensures outcome { HasOutcome (map string_bytes words.now) (D.held depot.old) (status_of result.ending) result.schedules
-        (outlets (S.parts stream.old) (S.aborts stream.old) (S.stream_faults stream.old) (O.written out.old) (O.faults out.old))
-        (outlets (S.parts stream.new) (S.aborts stream.new) (S.stream_faults stream.new) (O.written out.new) (O.faults out.new)) }
+        (outlets (S.parts stream) (S.aborts stream) (S.stream_faults stream) (O.written out.old) (O.faults out.old))
+        (outlets (S.parts result.stream) (S.aborts result.stream) (S.stream_faults result.stream) (O.written out.new) (O.faults out.new)) }
 
     // Of what was handed in, the size of chunks stays the same, and no count falls.
-    ensures chunk_size { S.chunk_bytes stream.new ≡ S.chunk_bytes stream.old }
+    ensures chunk_size { S.chunk_bytes result.stream ≡ S.chunk_bytes stream }
     ensures misses { D.misses depot.old ≤ D.misses depot.new }
     ensures read_faults { D.read_faults depot.old ≤ D.read_faults depot.new }
-    ensures aborts { S.aborts stream.old ≤ S.aborts stream.new }
-    ensures stream_faults { S.stream_faults stream.old ≤ S.stream_faults stream.new }
+    ensures aborts { S.aborts stream ≤ S.aborts result.stream }
+    ensures stream_faults { S.stream_faults stream ≤ S.stream_faults result.stream }
     ensures out_faults { O.faults out.old ≤ O.faults out.new }
 {
     match load(alloc, words, depot) {
-        Ok(task) => work(alloc, &task, stream, out),
+        Ok(task) => work(alloc, task, stream, out),
         Err(ending) => Ran {
             ending,
             schedules: Sequence::new(alloc),
+            stream,
         },
     }
 }
@@ -112,13 +123,13 @@ pub(crate) fn once<D: Depot, S: OutputStream, O: Sink, E: Sink>(
     alloc: Global,
     words: &[String],
     depot: &mut D,
-    stream: &mut S,
+    stream: S,
     out: &mut O,
     err: &mut E,
-) -> Ran
+) -> Ran<S>
     ensures ending { IsEndedAs (map string_bytes words.now)
-        (outside (D.held depot.old) (D.misses depot.old) (D.read_faults depot.old) (S.aborts stream.old) (S.stream_faults stream.old) (O.faults out.old))
-        (outside (D.held depot.new) (D.misses depot.new) (D.read_faults depot.new) (S.aborts stream.new) (S.stream_faults stream.new) (O.faults out.new))
+        (outside (D.held depot.old) (D.misses depot.old) (D.read_faults depot.old) (S.aborts stream) (S.stream_faults stream) (O.faults out.old))
+        (outside (D.held depot.new) (D.misses depot.new) (D.read_faults depot.new) (S.aborts result.stream) (S.stream_faults result.stream) (O.faults out.new))
         result.ending }
     ensures command { (status_of result.ending ≡ 1) ⊎ ((status_of result.ending ≡ 6) ⊎ IsCommand (map string_bytes words.now)) }
     ensures readable { StopsReading (status_of result.ending) ⊎ MayReadAll (D.held depot.old) (map string_bytes words.now) }
@@ -127,15 +138,15 @@ pub(crate) fn once<D: Depot, S: OutputStream, O: Sink, E: Sink>(
 
     // What was done, and what has come out.
     ensures outcome { HasOutcome (map string_bytes words.now) (D.held depot.old) (status_of result.ending) result.schedules
-        (outlets (S.parts stream.old) (S.aborts stream.old) (S.stream_faults stream.old) (O.written out.old) (O.faults out.old))
-        (outlets (S.parts stream.new) (S.aborts stream.new) (S.stream_faults stream.new) (O.written out.new) (O.faults out.new)) }
+        (outlets (S.parts stream) (S.aborts stream) (S.stream_faults stream) (O.written out.old) (O.faults out.old))
+        (outlets (S.parts result.stream) (S.aborts result.stream) (S.stream_faults result.stream) (O.written out.new) (O.faults out.new)) }
 
     // Of what was handed in, the size of chunks stays the same, and no count falls.
-    ensures chunk_size { S.chunk_bytes stream.new ≡ S.chunk_bytes stream.old }
+    ensures chunk_size { S.chunk_bytes result.stream ≡ S.chunk_bytes stream }
     ensures misses { D.misses depot.old ≤ D.misses depot.new }
     ensures read_faults { D.read_faults depot.old ≤ D.read_faults depot.new }
-    ensures aborts { S.aborts stream.old ≤ S.aborts stream.new }
-    ensures stream_faults { S.stream_faults stream.old ≤ S.stream_faults stream.new }
+    ensures aborts { S.aborts stream ≤ S.aborts result.stream }
+    ensures stream_faults { S.stream_faults stream ≤ S.stream_faults result.stream }
     ensures out_faults { O.faults out.old ≤ O.faults out.new }
     ensures err_faults { E.faults err.old ≤ E.faults err.new }
 {
@@ -144,6 +155,7 @@ pub(crate) fn once<D: Depot, S: OutputStream, O: Sink, E: Sink>(
     Ran {
         ending,
         schedules: ran.schedules,
+        stream: ran.stream,
     }
 }
 
@@ -182,8 +194,14 @@ pub fn cpuprof_once<D: Depot, O: Sink, E: Sink>(
     ensures write_fault { result.status ≡ 5 → Rose (stream_faults stream) (stream_faults result.stream) ⊎ Rose (O.faults out.old) (O.faults out.new) }
     ensures aborted { result.status ≡ 14 → Rose (aborts stream) (aborts result.stream) }
 
+    // A guest's own end: it trapped, its budget of steps was spent, or its schedule was full.
+    ensures trapped { result.status ≡ 7 → AsksToRun (map string_bytes words.now) }
+    ensures spent { result.status ≡ 8 → AsksToRun (map string_bytes words.now) }
+    ensures full { result.status ≡ 13 → AsksToRun (map string_bytes words.now) }
+
     // What the words ask for was done, and what came of it was handed out: the files through the
     // stream, the text through `out`, and the schedules. Or nothing was done, and nothing came out.
+    // Or memory ran out in a run, none of whose files was delivered.
     ensures outcome { HasOutcome (map string_bytes words.now) (D.held depot.old) result.status result.schedules
         (outlets (parts stream) (aborts stream) (stream_faults stream) (O.written out.old) (O.faults out.old))
         (outlets (parts result.stream) (aborts result.stream) (stream_faults result.stream) (O.written out.new) (O.faults out.new)) }
@@ -212,11 +230,10 @@ pub fn cpuprof_once<D: Depot, O: Sink, E: Sink>(
     ensures out_faults { O.faults out.old ≤ O.faults out.new }
     ensures err_faults { E.faults err.old ≤ E.faults err.new }
 {
-    let mut stream = stream;
-    let ran = once(alloc, words, depot, &mut stream, out, err);
+    let ran = once(alloc, words, depot, stream, out, err);
     Outcome {
         status: ran.ending.status(),
         schedules: ran.schedules,
-        stream,
+        stream: ran.stream,
     }
 }

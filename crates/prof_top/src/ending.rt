@@ -2,7 +2,7 @@
 ghost use Rattle.std.specs.Prelude.{◌≡◌, ◌⊎◌, ◌≤◌, IfOk, OnOk, IsErrOf, string_bytes};
 ghost use Rattle.prof_base.specs.Causes.{Rose};
 ghost use Rattle.prof_outer.specs.Appends.{AppendsWhole, AppendsPart};
-ghost use Rattle.prof_top.specs.Ending.{status_of, cause_word, refused_line, fault_word, items_refused_line, line_of, ending_after};
+ghost use Rattle.prof_top.specs.Ending.{status_of, cause_word, refused_line, fault_word, items_refused_line, trap_word, trap_line, line_of, ending_after};
 ghost use Rattle.prof_top.specs.Written.{IsWritten};
 
 use guest_text::ProgramCause;
@@ -11,10 +11,20 @@ use prof_outer::{Sink, SinkFault};
 use record_text::LineCause;
 use std::alloc::{AllocError, Global};
 
+/// How a guest trapped.
+#[derive(Clone, Copy, Debug, PartialEq, Eq)]
+pub enum Trap {
+    /// A call found no room on the guest's stack.
+    Overflow,
+    /// A function ran past its last instruction.
+    OffEnd,
+}
+
 /// How a call ends, with what its line of error says.
 #[derive(Debug, Drop)]
 pub enum Ending {
-    /// What was asked for was done: every file was delivered, and the text was written.
+    /// What was asked for was done: the guest halted, if one was run, every file was delivered, and
+    /// the text was written.
     Done,
     /// The words are no line of the command table.
     Usage,
@@ -36,11 +46,22 @@ pub enum Ending {
     CannotWrite,
     /// Out of memory.
     Memory,
+    /// The guest trapped with this step.
+    Trapped {
+        trap: Trap,
+        step: u64,
+    },
+    /// The guest did as many steps as the budget allows, and did not end.
+    BudgetSpent {
+        steps: u64,
+    },
     /// The text of the item list cannot be read: the first fault is at this line, counted from 1.
     ItemsRefused {
         line: u32,
         cause: LineCause,
     },
+    /// The schedule of a run had no room for a further entry.
+    ScheduleFull,
     /// The stream aborted.
     Aborted,
 }
@@ -95,6 +116,22 @@ fn items_refused_line(alloc: Global, line: u32, cause: LineCause) -> Result<Stri
     Ok(text)
 }
 
+fn trap_word(trap: Trap) -> &'static str
+    ensures { result.now ≡ trap_word trap }
+{
+    match trap {
+        Trap::Overflow => "overflow",
+        Trap::OffEnd => "offend",
+    }
+}
+
+fn trap_line(alloc: Global, trap: Trap, step: u64) -> Result<String, AllocError>
+    ensures { IfOk result (λ text. string_bytes text ≡ trap_line trap step) }
+{
+    let word = trap_word(trap);
+    format!(in alloc; "cpuprof: guest trap {word} at step {step}\n")
+}
+
 impl Ending {
     /// Returns the exit status.
     pub(crate) fn status(&self) -> u8
@@ -108,7 +145,10 @@ impl Ending {
             Ending::CannotRead { .. } => 4,
             Ending::CannotWrite => 5,
             Ending::Memory => 6,
+            Ending::Trapped { .. } => 7,
+            Ending::BudgetSpent { .. } => 8,
             Ending::ItemsRefused { .. } => 10,
+            Ending::ScheduleFull => 13,
             Ending::Aborted => 14,
         }
     }
@@ -134,6 +174,11 @@ impl Ending {
             }
             Ending::CannotWrite => String::from_str(alloc, "cpuprof: cannot write\n"),
             Ending::Memory => String::from_str(alloc, "cpuprof: out of memory\n"),
+            Ending::Trapped { trap, step } => trap_line(alloc, *trap, *step),
+            Ending::BudgetSpent { steps } => {
+                format!(in alloc; "cpuprof: budget of {steps} steps is spent\n")
+            }
+            Ending::ScheduleFull => String::from_str(alloc, "cpuprof: schedule is full\n"),
             Ending::Aborted => String::from_str(alloc, "cpuprof: stream aborted\n"),
         }
     }

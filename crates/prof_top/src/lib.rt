@@ -2,16 +2,15 @@
 #![tactic(auto)]
 
 mod call;
+mod due;
 mod ending;
 mod fold;
 pub mod laws;
 mod load;
-mod machine;
 mod printing;
 mod printout;
-mod recording;
 mod run;
 mod words;
 
 pub use call::{Outcome, cpuprof_once};
-pub use recording::{BUDGET, ENTRIES};
+pub use run::{BUDGET, ENTRIES};

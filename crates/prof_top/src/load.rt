@@ -11,7 +11,7 @@ ghost use Rattle.prof_top.specs.Task.{IsProgramRead, IsListRead, IsLoaded, IsRea
 use crate::ending::Ending;
 use crate::words::{CommandLine, WordsRefused, command_line};
 use guest_program::Program;
-use guest_text::{ProgramCause, ProgramRefused, read_straight_program};
+use guest_text::{ProgramCause, ProgramRefused, read_program};
 use item_text::{ItemList, read_items};
 use prof_base::Text;
 use prof_outer::{Depot, GetFault};
@@ -26,7 +26,7 @@ pub enum Unread {
     Missing,
     /// The file could not be read.
     CannotRead,
-    /// Its text is no program that can be read.
+    /// Its text is no program.
     ProgramRefused { line: u32, cause: ProgramCause },
     /// Its text is no item list.
     ItemsRefused { line: u32, cause: LineCause },
@@ -76,7 +76,7 @@ fn program_under<D: Depot>(alloc: Global, depot: &mut D, name: &Text) -> Result<
     ensures read_faults { D.read_faults depot.old ≤ D.read_faults depot.new }
 {
     let text = text_under(alloc, depot, name)?;
-    match read_straight_program(alloc, &text) {
+    match read_program(alloc, &text) {
         Ok(program) => Ok(program),
         Err(ProgramRefused::At { line, cause }) => Err(Unread::ProgramRefused { line, cause }),
         Err(ProgramRefused::Memory) => Err(Unread::Memory),

@@ -82,8 +82,8 @@ fn samples_line(alloc: Global, entries: &[ScheduleEntry]) -> Result<String, Allo
     counts_line(alloc, sampled(entries), dropped(entries))
 }
 
-/// Returns the lines of a schedule.
-pub(crate) fn schedule_lines(alloc: Global, schedule: &Schedule) -> Result<String, AllocError>
+// Returns the lines of a schedule.
+fn schedule_lines(alloc: Global, schedule: &Schedule) -> Result<String, AllocError>
     ensures { IfOk result (λ text. string_bytes text ≡ schedule_lines schedule.now.entries) }
 {
     let entries = schedule.entries();
@@ -131,24 +131,39 @@ pub(crate) fn items_line(alloc: Global, items: &[Item]) -> Result<String, AllocE
     kinds_line(alloc, items.len() - ticks, ticks)
 }
 
+/// Returns what is printed of a run, but for its files: the guest's own text, and the lines of its
+/// schedule.
+pub(crate) fn run_lines(
+    alloc: Global,
+    printed: &[u8],
+    schedule: &Schedule,
+) -> Result<Vec<u8>, AllocError>
+    ensures { IfOk result (λ text. text.items ≡ printed.now ++ schedule_lines schedule.now.entries) }
+{
+    let mut text = printed.to_vec(alloc)?;
+    let lines = schedule_lines(alloc, schedule)?;
+    text.extend_from_slice(lines.as_bytes())?;
+    Ok(text)
+}
+
 // Adds the line of a file that was delivered.
-fn put_file_line(alloc: Global, text: &mut String, note: &FileNote) -> Result<(), AllocError>
-    ensures { OnOk result (string_bytes text.new ≡ string_bytes text.old ++ note_line note.now) }
+fn put_file_line(alloc: Global, text: &mut Vec<u8>, note: &FileNote) -> Result<(), AllocError>
+    ensures { OnOk result (text.new.items ≡ text.old.items ++ note_line note.now) }
 {
     let (session, length) = (note.session.0, note.length);
     let line = format!(in alloc; "file {session} {length}\n")?;
-    text.push_str(line.as_str())
+    text.extend_from_slice(line.as_bytes())
 }
 
 /// Returns these lines, and after them a line for each file that was delivered.
 pub(crate) fn with_file_lines(
     alloc: Global,
-    lines: &str,
+    lines: &[u8],
     notes: &[FileNote],
-) -> Result<String, AllocError>
-    ensures { IfOk result (λ text. string_bytes text ≡ lines.now ++ flat_map note_line notes.now) }
+) -> Result<Vec<u8>, AllocError>
+    ensures { IfOk result (λ text. text.items ≡ lines.now ++ flat_map note_line notes.now) }
 {
-    let mut text = String::from_str(alloc, lines)?;
+    let mut text = lines.to_vec(alloc)?;
     for note in notes {
         put_file_line(alloc, &mut text, note)?;
     }

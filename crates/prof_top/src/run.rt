@@ -1,117 +1,167 @@
-// A run: the guest's recording, the delivery of its file, and the text that is printed.
-ghost use Rattle.std.specs.Prelude.{◌≡◌, ◌≤◌, ◌⊎◌, ◌<◌, ℕ, List, IfOk, length, string_bytes};
-ghost use Rattle.guest_text.specs.Straight.{IsStraight};
+// A run: the guest on the step clock, the delivery of its file, and the text that is printed.
+ghost use Rattle.std.specs.Prelude.{◌≡◌, ◌≤◌, ◌⊎◌, ◌++◌, [], ℕ, List, IsErrOf, vec_capacity};
 ghost use Rattle.guest_program.specs.declared.instr.Func.{Func};
 ghost use Rattle.prof_base.specs.Causes.{Rose};
-ghost use Rattle.isolate.specs.PlainFile.{plain_files};
-ghost use Rattle.prof_top.specs.Ending.{status_of, IsWorkEnding};
-ghost use Rattle.prof_top.specs.HandedOut.{outlets};
-ghost use Rattle.prof_top.specs.Log.{IsRecorded, IsWholeRun};
+ghost use Rattle.processor.specs.Filing.{answer_of};
+ghost use Rattle.raised_so_far.specs.Raised.{EndsFor};
+ghost use Rattle.one_thread.specs.UnderWay.{Outlet};
+ghost use Rattle.clock_run.specs.Run.{HasEnded};
+ghost use Rattle.prof_top.specs.Ending.{status_of, due_of, IsDue, IsWorkEnding};
+ghost use Rattle.prof_top.specs.HandedOut.{HandsOut, outlets};
 ghost use Rattle.prof_top.specs.Outcome.{IsWorked};
-ghost use Rattle.prof_top.specs.PrintedText.{one_file};
+ghost use Rattle.prof_top.specs.PrintedText.{schedule_lines};
+ghost use Rattle.prof_top.specs.Product.{MayBeDue};
+ghost use Rattle.prof_top.specs.RunSchedule.{config_of};
 ghost use Rattle.prof_top.specs.declared.load.Task.TheVariants as task;
 
+use crate::due::due_of;
 use crate::ending::Ending;
-use crate::printing::schedule_lines;
+use crate::printing::run_lines;
 use crate::printout::print_out;
-use crate::recording::{RecordedRun, SESSION, record};
-use cpuprofile::write_finished;
+use clock_run::{ClockRun, run_on_clock};
 use guest_program::Program;
-use item_fold::deliver_file;
-use out_stream::OutputStream;
-use prof_base::{MAX_INTERVAL, Memory, Sequence};
+use isolate_turns::IsoConfig;
+use one_thread::OneThread;
+use out_stream::{OutputStream, Undelivered};
+use prof_base::{MAX_INTERVAL, Sequence};
 use prof_outer::Sink;
-use record_text::Schedule;
+use record_text::{DEFAULT_RING, EndCause, Schedule};
 use std::alloc::Global;
 
-/// The result of a call: how it ended, and the schedules of the runs that took place.
-#[derive(Debug, Drop)]
-pub(crate) struct Ran {
+/// The greatest number of steps of a run.
+pub const BUDGET: u64 = 10_000_000;
+
+/// The greatest number of entries of a schedule.
+pub const ENTRIES: u32 = 1_048_576;
+
+/// The result of a call: how it ended, the schedules of the runs that took place, and the stream that
+/// it was given.
+#[derive(Drop)]
+pub(crate) struct Ran<S: OutputStream> {
     pub(crate) ending: Ending,
     pub(crate) schedules: Sequence<Schedule>,
+    pub(crate) stream: S,
 }
 
-// A run that took place.
-#[derive(Debug, Drop)]
-struct Recorded {
-    schedules: Sequence<Schedule>,
-    /// What is printed of it, except for its file.
-    lines: String,
-    /// The text of the session's file.
-    file: Sequence<u8>,
-}
+// Prints what a run has to say, and returns how the call ends.
+fn print_run<S: OutputStream, O: Sink>(alloc: Global, thread: &OneThread<S>, out: &mut O) -> Ending
+    requires { IsDue (due_of thread.now.isolate.progress.schedule.entries) }
+    // How it may end, and the cause of each.
+    ensures ending { IsWorkEnding result }
+    ensures due { IsDue result → result ≡ due_of thread.now.isolate.progress.schedule.entries }
+    ensures cannot_write { result ≡ Ending.CannotWrite → IsErrOf (answer_of thread.now.processor.course.filing.delivery thread.now.processor.course.filing.is_spent) Undelivered.Failed ⊎ Rose (O.faults out.old) (O.faults out.new) }
+    ensures aborted { result ≡ Ending.Aborted → IsErrOf (answer_of thread.now.processor.course.filing.delivery thread.now.processor.course.filing.is_spent) Undelivered.Aborted }
+    ensures faults { O.faults out.old ≤ O.faults out.new }
 
-// Writes the file of the one session.
-fn session_file(alloc: Global, recording: &RecordedRun) -> Result<Sequence<u8>, Memory>
-    ensures file { IfOk result (λ text. (funcs : List Func) (every : ℕ)
-        → IsRecorded funcs every recording.now.schedule recording.now.profile
-        → plain_files funcs recording.now.schedule ≡ one_file text) }
-    ensures some { IfOk result (λ text. 0 < length text) }
+    // What has come out.
+    ensures handed { HandsOut (answer_of thread.now.processor.course.filing.delivery thread.now.processor.course.filing.is_spent) (due_of thread.now.isolate.progress.schedule.entries)
+        (thread.now.isolate.printed.items ++ schedule_lines thread.now.isolate.progress.schedule.entries) thread.now.processor.course.filing.notes (status_of result) (O.written out.old) (O.faults out.old) (O.written out.new) (O.faults out.new) }
 {
-    let text = write_finished(alloc, &recording.profile)?;
-    Ok(Sequence::from_vec(text))
+    let Ok(lines) = run_lines(alloc, thread.printed(), thread.schedule()) else {
+        return Ending::Memory;
+    };
+    let due = due_of(thread.schedule().entries());
+    print_out(
+        alloc,
+        thread.delivered(),
+        due,
+        lines.as_slice(),
+        thread.notes(),
+        out,
+    )
 }
 
-// Runs the program, and makes the lines that are printed of the run and the text of its file.
-fn record_run(alloc: Global, program: &Program, every: u32) -> Result<Recorded, Memory>
-    requires low { 1 ≤ every }
-    requires high { every ≤ MAX_INTERVAL }
-    requires straight { IsStraight program.now }
-    ensures run { IfOk result (λ recorded. IsWholeRun program.now every recorded.schedules (string_bytes recorded.lines) recorded.file) }
-    ensures some { IfOk result (λ recorded. 0 < length recorded.file) }
+// Prints what a run that has ended has to say, and returns its schedule and the stream. Where memory
+// ran out in the run, it prints nothing and returns no schedule.
+fn report_run<S: OutputStream, O: Sink>(
+    alloc: Global,
+    run: ClockRun<S>,
+    schedules: Vec<Schedule>,
+    out: &mut O,
+) -> Ran<S>
+    requires ends { EndsFor run.why run.thread.isolate.progress.schedule.entries }
+    requires none { schedules.items ≡ [] }
+    requires room { 1 ≤ vec_capacity schedules }
+    ensures ending { IsWorkEnding result.ending }
+    ensures stream { result.stream ≡ run.thread.processor.stream }
+    ensures out_faults { O.faults out.old ≤ O.faults out.new }
+    ensures due { (funcs : List Func) (every : ℕ) (before now : Outlet) → HasEnded funcs (config_of every) run.why before now run.thread.isolate run.thread.processor
+        → IsDue result.ending → MayBeDue (task.Run funcs every) result.ending }
+    ensures cannot_write { (funcs : List Func) (every : ℕ) (before now : Outlet) → HasEnded funcs (config_of every) run.why before now run.thread.isolate run.thread.processor
+        → result.ending ≡ Ending.CannotWrite → Rose before.faults now.faults ⊎ Rose (O.faults out.old) (O.faults out.new) }
+    ensures aborted { (funcs : List Func) (every : ℕ) (before now : Outlet) → HasEnded funcs (config_of every) run.why before now run.thread.isolate run.thread.processor
+        → result.ending ≡ Ending.Aborted → Rose before.aborts now.aborts }
+    ensures worked { (funcs : List Func) (every : ℕ) (before now : Outlet) → HasEnded funcs (config_of every) run.why before now run.thread.isolate run.thread.processor
+        → IsWorked (task.Run funcs every) (status_of result.ending) result.schedules
+        (outlets before.parts before.aborts before.faults (O.written out.old) (O.faults out.old)) (outlets now.parts now.aborts now.faults (O.written out.new) (O.faults out.new)) }
 {
-    let recording = record(alloc, program, every)?;
-    let file = session_file(alloc, &recording)?;
-    let lines = schedule_lines(alloc, &recording.schedule)?;
-    let mut schedules = Sequence::new(alloc);
-    schedules.push(recording.schedule)?;
-    Ok(Recorded {
-        schedules,
-        lines,
-        file,
-    })
+    let ClockRun { thread, why } = run;
+    if why == EndCause::Memory {
+        let (_, stream) = thread.close();
+        return Ran {
+            ending: Ending::Memory,
+            schedules: Sequence::from_vec(schedules),
+            stream,
+        };
+    }
+    let ending = print_run(alloc, &thread, out);
+    let (schedule, stream) = thread.close();
+    let mut schedules = schedules;
+    schedules.push_reserved(schedule);
+    Ran {
+        ending,
+        schedules: Sequence::from_vec(schedules),
+        stream,
+    }
 }
 
 /// Runs the program under the step clock, with one session from the start to the end that samples
 /// every `every` microseconds. Delivers its file, and then prints to `out`.
 pub(crate) fn run<S: OutputStream, O: Sink>(
     alloc: Global,
-    program: &Program,
+    program: Program,
     every: u32,
-    stream: &mut S,
+    stream: S,
     out: &mut O,
-) -> Ran
+) -> Ran<S>
     requires low { 1 ≤ every }
     requires high { every ≤ MAX_INTERVAL }
-    requires straight { IsStraight program.now }
     // How it may end, and the cause of each.
     ensures ending { IsWorkEnding result.ending }
-    ensures cannot_write { result.ending ≡ Ending.CannotWrite → Rose (S.stream_faults stream.old) (S.stream_faults stream.new) ⊎ Rose (O.faults out.old) (O.faults out.new) }
-    ensures aborted { result.ending ≡ Ending.Aborted → Rose (S.aborts stream.old) (S.aborts stream.new) }
+    ensures due { IsDue result.ending → MayBeDue (task.Run program every) result.ending }
+    ensures cannot_write { result.ending ≡ Ending.CannotWrite → Rose (S.stream_faults stream) (S.stream_faults result.stream) ⊎ Rose (O.faults out.old) (O.faults out.new) }
+    ensures aborted { result.ending ≡ Ending.Aborted → Rose (S.aborts stream) (S.aborts result.stream) }
 
     // The schedule of the run, and what has come out of it.
-    ensures worked { IsWorked (task.Run program.now every) (status_of result.ending) result.schedules
-        (outlets (S.parts stream.old) (S.aborts stream.old) (S.stream_faults stream.old) (O.written out.old) (O.faults out.old))
-        (outlets (S.parts stream.new) (S.aborts stream.new) (S.stream_faults stream.new) (O.written out.new) (O.faults out.new)) }
+    ensures worked { IsWorked (task.Run program every) (status_of result.ending) result.schedules
+        (outlets (S.parts stream) (S.aborts stream) (S.stream_faults stream) (O.written out.old) (O.faults out.old))
+        (outlets (S.parts result.stream) (S.aborts result.stream) (S.stream_faults result.stream) (O.written out.new) (O.faults out.new)) }
 
     // The stream's size of chunks stays the same, and no count falls.
-    ensures chunk_size { S.chunk_bytes stream.new ≡ S.chunk_bytes stream.old }
-    ensures aborts { S.aborts stream.old ≤ S.aborts stream.new }
-    ensures stream_faults { S.stream_faults stream.old ≤ S.stream_faults stream.new }
+    ensures chunk_size { S.chunk_bytes result.stream ≡ S.chunk_bytes stream }
+    ensures aborts { S.aborts stream ≤ S.aborts result.stream }
+    ensures stream_faults { S.stream_faults stream ≤ S.stream_faults result.stream }
     ensures out_faults { O.faults out.old ≤ O.faults out.new }
 {
-    let Ok(recorded) = record_run(alloc, program, every) else {
+    let config = IsoConfig {
+        base: every,
+        ring: DEFAULT_RING,
+        budget: BUDGET,
+        limit: ENTRIES,
+    };
+    let Ok(schedules) = Vec::with_capacity(alloc, 1) else {
         return Ran {
             ending: Ending::Memory,
             schedules: Sequence::new(alloc),
+            stream,
         };
     };
-    let (lines, file) = (recorded.lines.as_str(), recorded.file.as_slice());
-    let mut notes = Sequence::new(alloc);
-    let delivered = deliver_file(alloc, SESSION, file, &mut notes, stream);
-    let ending = print_out(alloc, delivered, lines, notes.as_slice(), out);
-    Ran {
-        ending,
-        schedules: recorded.schedules,
+    match run_on_clock(alloc, program, config, stream) {
+        Ok(run) => report_run(alloc, run, schedules, out),
+        Err(stream) => Ran {
+            ending: Ending::Memory,
+            schedules: Sequence::new(alloc),
+            stream,
+        },
     }
 }

@@ -1,12 +1,13 @@
-use Rattle.std.proofs.Common.{inl, inr, map, string_bytes}
+use Rattle.std.proofs.Common.{inl, inr, map, string_bytes, sym, ◌∙◌}
 use Rattle.isolate.specs.Fits.{Fits}
-use Rattle.prof_top.proofs.Outcomes.{all_legal, at_most_one, each_of, none_before, one_after, outcome_with, run_or_none}
+use Rattle.prof_top.proofs.Ends.{refused_by, absent_by}
+use Rattle.prof_top.proofs.Outcomes.{all_legal, asks_to_run, at_most_one, each_of, none_before, one_after, outcome_with, run_or_none}
 use Rattle.prof_top.proofs.Lines.{readable_at_last}
 use Rattle.prof_top.proofs.call.cpuprof_once.Goals as goal
 use Rattle.prof_top.specs.Ending.{status_of}
 use Rattle.prof_top.specs.RunSchedule.{IsHead}
 use Rattle.step_clock.specs.StepClock.{IsStepClock}
-use Rattle.prof_top.specs.declared.recording.TheConstants.{BUDGET, ENTRIES}
+use Rattle.prof_top.specs.declared.run.TheConstants.{BUDGET, ENTRIES}
 
 pub returns-clause-readable : goal.returns-clause-readable
 returns-clause-readable g c =
@@ -49,3 +50,23 @@ returns-clause-clock g c =
     inr (each_of (map string_bytes c.args.words.now) (g.D.Depot.held c.args.depot.now) c.once-ran.result.schedules
     (λ funcs every schedule. IsStepClock funcs every BUDGET ENTRIES schedule.entries) (λ funcs every schedule is. is.clock)
     (run_or_none (map string_bytes c.args.words.now) (g.D.Depot.held c.args.depot.now) c.status.result c.once-ran.result.schedules _ _ (returns-clause-outcome g c)))
+
+pub returns-clause-trapped : goal.returns-clause-trapped
+returns-clause-trapped g c is =
+    asks_to_run (map string_bytes c.args.words.now) (g.D.Depot.held c.args.depot.now) c.status.result c.once-ran.result.schedules _ _ (returns-clause-outcome g c) (inl is)
+
+pub returns-clause-spent : goal.returns-clause-spent
+returns-clause-spent g c is =
+    asks_to_run (map string_bytes c.args.words.now) (g.D.Depot.held c.args.depot.now) c.status.result c.once-ran.result.schedules _ _ (returns-clause-outcome g c) (inr (inl is))
+
+pub returns-clause-full : goal.returns-clause-full
+returns-clause-full g c is =
+    asks_to_run (map string_bytes c.args.words.now) (g.D.Depot.held c.args.depot.now) c.status.result c.once-ran.result.schedules _ _ (returns-clause-outcome g c) (inr (inr is))
+
+pub returns-clause-refused : goal.returns-clause-refused
+returns-clause-refused g c kind is =
+    refused_by (map string_bytes c.args.words.now) _ _ _ _ _ _ c.once-ran.result.ending kind c.once-ran.ensures.ending (sym c.status.ensures ∙ is)
+
+pub returns-clause-absent : goal.returns-clause-absent
+returns-clause-absent g c is =
+    absent_by (map string_bytes c.args.words.now) _ _ _ _ _ _ c.once-ran.result.ending c.once-ran.ensures.ending (sym c.status.ensures ∙ is)

@@ -1,5 +1,6 @@
 use Rattle.std.proofs.Common.{inl, inr, map, string_bytes}
 use Rattle.prof_top.proofs.Lines.{may_read_all, stops_reading}
+use Rattle.prof_top.proofs.Named.{named_at_end}
 use Rattle.prof_top.proofs.Outcomes.{worked_on}
 use Rattle.prof_top.proofs.call.load_and_work.Goals as goal
 use Rattle.prof_top.specs.Ending.{status_of}
@@ -15,3 +16,7 @@ pub returns-in-Err-clause-readable : goal.returns-in-Err-clause-readable
 returns-in-Err-clause-readable g c =
     inl (stops_reading (map string_bytes c.args.words.now) (g.D.Depot.held c.args.depot.now) (g.D.Depot.misses c.args.depot.now) (g.D.Depot.misses c.load.new.depot)
     (g.D.Depot.read_faults c.args.depot.now) (g.D.Depot.read_faults c.load.new.depot) c.in-Err.ending c.in-Err.ensures.err)
+
+pub returns-in-Ok-clause-named : goal.returns-in-Ok-clause-named
+returns-in-Ok-clause-named g c =
+    named_at_end (map string_bytes c.args.words.now) (g.D.Depot.held c.args.depot.now) c.in-Ok.task c.work.result.ending c.in-Ok.ensures.read c.work.ensures.ending c.work.ensures.due

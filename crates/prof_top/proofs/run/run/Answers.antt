@@ -1,12 +1,28 @@
-use Rattle.std.proofs.Common.{inl, rules, string_bytes, []}
-use Rattle.prof_top.proofs.Folds.{delivered_as, none_delivered, run_done}
+use Rattle.std.proofs.Common.{◌⊎◌, subst, sym}
+use Rattle.prof_base.specs.Causes.{Rose}
+use Rattle.prof_top.specs.Ending.{status_of}
+use Rattle.prof_top.specs.HandedOut.{outlets}
+use Rattle.prof_top.specs.Outcome.{IsWorked}
+use Rattle.prof_top.specs.declared.load.Task.TheVariants as task
 use Rattle.prof_top.proofs.run.run.Goals as goal
 
-pub returns-clause-worked : goal.returns-clause-worked
-returns-clause-worked g c =
-    let recorded = c.in-Ok.recorded in
-    let delivered = c.deliver_file-delivered in
-    inl (run_done c.args.program.now c.args.every recorded.schedules c.print_out-ending.result (string_bytes recorded.lines) recorded.file c.as_str-lines.result.now c.as_slice-file.result.now _ _
-    c.print_out-ending.ensures.ending c.in-Ok.ensures.run (search rules) (search rules)
-    (c.print_out-ending.ensures.handed _ _ _ _ _ _ _
-    (delivered_as _ delivered.result delivered.new.notes c.as_slice.result.now _ _ _ _ _ _ (search rules) (delivered.ensures.delivers [] _ (none_delivered c.new-notes.result _ (search rules))) delivered.ensures.aborted delivered.ensures.failed)))
+pub returns-in-Ok-run_on_clock-clause-due : goal.returns-in-Ok-run_on_clock-clause-due
+returns-in-Ok-run_on_clock-clause-due g c is = c.report_run.ensures.due c.args.program c.args.every _ _ c.in-Ok-run_on_clock.ensures.ended is
+
+pub returns-in-Ok-run_on_clock-clause-cannot_write : goal.returns-in-Ok-run_on_clock-clause-cannot_write
+returns-in-Ok-run_on_clock-clause-cannot_write g c is =
+    subst (λ (s : g.row.S.Denot). Rose (g.S.OutputStream.stream_faults c.args.stream) (g.S.OutputStream.stream_faults s) ⊎ Rose (g.O.Sink.faults c.args.out.now) (g.O.Sink.faults c.report_run.new.out)) (sym c.report_run.ensures.stream)
+    (c.report_run.ensures.cannot_write c.args.program c.args.every _ _ c.in-Ok-run_on_clock.ensures.ended is)
+
+pub returns-in-Ok-run_on_clock-clause-aborted : goal.returns-in-Ok-run_on_clock-clause-aborted
+returns-in-Ok-run_on_clock-clause-aborted g c is =
+    subst (λ (s : g.row.S.Denot). Rose (g.S.OutputStream.aborts c.args.stream) (g.S.OutputStream.aborts s)) (sym c.report_run.ensures.stream)
+    (c.report_run.ensures.aborted c.args.program c.args.every _ _ c.in-Ok-run_on_clock.ensures.ended is)
+
+pub returns-in-Ok-run_on_clock-clause-worked : goal.returns-in-Ok-run_on_clock-clause-worked
+returns-in-Ok-run_on_clock-clause-worked g c =
+    subst
+    (λ (s : g.row.S.Denot). IsWorked (task.Run c.args.program c.args.every) (status_of c.report_run.result.ending) c.report_run.result.schedules
+    (outlets (g.S.OutputStream.parts c.args.stream) (g.S.OutputStream.aborts c.args.stream) (g.S.OutputStream.stream_faults c.args.stream) (g.O.Sink.written c.args.out.now) (g.O.Sink.faults c.args.out.now))
+    (outlets (g.S.OutputStream.parts s) (g.S.OutputStream.aborts s) (g.S.OutputStream.stream_faults s) (g.O.Sink.written c.report_run.new.out) (g.O.Sink.faults c.report_run.new.out)))
+    (sym c.report_run.ensures.stream) (c.report_run.ensures.worked c.args.program c.args.every _ _ c.in-Ok-run_on_clock.ensures.ended)
