@@ -5,7 +5,6 @@ The rules are written here a second time, with patterns, dictionaries and sets, 
 nothing with the product. Run it in the crate's folder.
 """
 import re
-from itertools import zip_longest
 
 SHOWN = 3_000  # the greatest number of bytes of a text that is printed
 MILLION = 1_000_000
@@ -213,31 +212,9 @@ def written(functions):
     return "".join(line + "\n" for line in lines).encode()
 
 
-def lines_with_ends(text):
-    return re.findall(rb"[^\n]*\n|[^\n]+", text)
-
-
-def read_straight(text):
-    """The function of a canonical text that has one function, not inline, of sets and halts, the last a halt."""
-    functions = read(text)
-    canonical, given = lines_with_ends(written(functions)), lines_with_ends(text)
-    wrong = {at for at, (one, other) in enumerate(zip_longest(canonical, given), 1) if one != other}
-    first, *others = functions
-    if first.inline:
-        wrong.add(1)
-    wrong |= {at for at, (_, op, _) in enumerate(first.body, 2) if op not in ("set", "halt")}
-    if others:
-        wrong.add(len(first.body) + 2)
-    elif first.body[-1][1] != "halt":
-        wrong.add(len(given) + 1)
-    if wrong:
-        raise Refused(f"line {min(wrong)} word")
-    return functions
-
-
-def answer(title, text):
+def answer(text):
     try:
-        functions = read_straight(text) if title.startswith("straight:") else read(text)
+        functions = read(text)
     except Refused as fault:
         return f"{fault}\n"
     canonical = written(functions)
@@ -267,4 +244,4 @@ with open("data/cases", newline="") as cases, open("stdout", "w", newline="") as
         title, *lines = case.split("\n")
         text = "".join(map(lines_of, lines))
         assert "the example" not in title or is_copy(title, text), title
-        out.write(f"% {title}\n" + answer(title, text.encode()))
+        out.write(f"% {title}\n" + answer(text.encode()))

@@ -16,5 +16,4 @@ pub mod ProgramOps
 pub mod ProgramTexts
 pub mod ProgramWords
 pub mod SpelledOutline
-pub mod StraightTexts
 pub mod WordSets

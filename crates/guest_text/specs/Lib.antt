@@ -6,4 +6,3 @@ pub mod ProgramRules
 pub mod ProgramText
 pub mod Draft
 pub mod TextLaws
-pub mod Straight

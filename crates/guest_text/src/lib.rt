@@ -9,11 +9,9 @@ mod program_line;
 mod reading;
 mod refused;
 mod rule;
-mod straight;
 mod word_set;
 mod writing;
 
 pub use reading::read_program;
 pub use refused::{ProgramCause, ProgramRefused};
-pub use straight::read_straight_program;
 pub use writing::write_program;

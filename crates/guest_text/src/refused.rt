@@ -3,7 +3,6 @@ ghost use Rattle.std.specs.Prelude.{◌≡◌};
 ghost use Rattle.guest_text.specs.ProgramText.{program_cause};
 
 use crate::rule::Rule;
-use prof_base::Memory;
 use prof_lines::Cause;
 
 /// What is wrong with a line of a program's text, or with its end.
@@ -33,17 +32,6 @@ pub enum ProgramRefused {
     At { line: u32, cause: ProgramCause },
     /// Out of memory, or the refused line has a number above 2^32 - 1.
     Memory,
-}
-
-impl From<Memory> for ProgramRefused {
-    ghost use Rattle.std.specs.Prelude.{◌≡◌};
-    ghost use Rattle.guest_text.specs.declared.refused.ProgramRefused.TheVariants as refused;
-
-    ghost from_gives = { λ _ e. e ≡ refused.Memory };
-
-    fn from(_: Memory) -> ProgramRefused {
-        ProgramRefused::Memory
-    }
 }
 
 pub(crate) fn program_cause(cause: Cause<Rule>) -> ProgramCause

@@ -1,13 +1,11 @@
-//! Prints what the readers of programs answer for each text in the file `cases`, whose first lines say how
+//! Prints what the reader of programs answers for each text in the file `cases`, whose first lines say how
 //! the texts are written there. Of a program that is read, the text that is written for it is printed too.
 //! `expected.py`, beside this crate's sources, works out the same lines from the rules alone.
 #![tactic(auto)]
 
 use case_text::text_of;
 use guest_program::Program;
-use guest_text::{
-    ProgramCause, ProgramRefused, read_program, read_straight_program, write_program,
-};
+use guest_text::{ProgramCause, ProgramRefused, read_program, write_program};
 use std::alloc::Global;
 use std::{fs, io, str};
 
@@ -22,15 +20,6 @@ fn cause_word(cause: ProgramCause) -> &'static str {
         ProgramCause::Twice => "twice",
         ProgramCause::Limit => "limit",
         ProgramCause::NoMain => "no main",
-    }
-}
-
-// Reads the text as the title of its case asks.
-fn read(alloc: Global, title: &str, text: &[u8]) -> Result<Program, ProgramRefused> {
-    if title.starts_with("straight:") {
-        read_straight_program(alloc, text)
-    } else {
-        read_program(alloc, text)
     }
 }
 
@@ -80,8 +69,8 @@ fn print_program(rt: &impl Print, alloc: Global, program: &Program) -> Result<()
     print_written(rt, written)
 }
 
-fn print_answer(rt: &impl Print, alloc: Global, title: &str, text: &[u8]) -> Result<(), io::Error> {
-    match read(alloc, title, text) {
+fn print_answer(rt: &impl Print, alloc: Global, text: &[u8]) -> Result<(), io::Error> {
+    match read_program(alloc, text) {
         Ok(program) => print_program(rt, alloc, &program),
         Err(ProgramRefused::At { line, cause }) => {
             println!(rt; "line {} {}", line, cause_word(cause))
@@ -98,7 +87,7 @@ fn main(rt: HostRuntime) -> Result<(), io::Error> {
         let title = case.split('\n').next().unwrap_or("");
         println!(rt; "% {title}")?;
         let text = text_of(alloc, case)?;
-        print_answer(&rt, alloc, title, text.as_bytes())?;
+        print_answer(&rt, alloc, text.as_bytes())?;
     }
     Ok(())
 }
