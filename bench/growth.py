@@ -4,9 +4,11 @@
     bench/growth.py [TICKS]
 
 makes three item lists, of TICKS, 4 * TICKS and 16 * TICKS ticks (62,500 by default), each tick with 30
-frames over 300 functions, and folds them; and three guest programs, of 256, 1,024 and 4,096
-instructions, and runs them with a sample at each step. Each is done five times. It prints the processor
-time of the fastest of the five, and what that is for each tick and for each byte of the input: these
+frames over 300 functions, and folds them; three guest programs, of 256, 1,024 and 4,096
+instructions, and runs them with a sample at each step; and three guest programs that loop for 600,000,
+2,400,000 and 9,600,000 steps, which it runs without a sample, and with a sample at every tenth step on
+stacks of 7 and of 100 frames. Each is done five times. It prints the processor
+time of the fastest of the five, and what that is for each tick or step and for each byte of the input: these
 stay the same where the cost grows with the size and no faster. The inputs are the same at every call, and
 are made anew in a folder of their own.
 """
@@ -23,6 +25,9 @@ SLOTS = 16
 FRAMES = 30
 DISTINCT_STACKS = 5000
 INSTRUCTIONS = 256
+LOOP_STEPS = 600_000
+STEPS_OF_A_ROUND = 3
+NO_SAMPLE = 1_000_000_000
 RUNS = 5
 SIZES = (1, 4, 16)
 PROGRAM = pathlib.Path(__file__).resolve().parent.parent / "cpuprof"
@@ -85,6 +90,16 @@ def write_program(path, instructions):
         out.write(f"{instructions + 1} halt\n")
 
 
+def write_loop(path, steps, frames):
+    """A loop of three steps a round, below as many calls as make a stack of this many frames."""
+    with open(path, "w") as out:
+        out.write('func main "main" "bench://app" 1 1 1\n')
+        out.write(f"2 set r1 {steps // STEPS_OF_A_ROUND}\n3 set r2 1\n4 set r3 {frames - 2}\n5 call deep\n6 halt\n")
+        out.write('func deep "deep" "bench://app" 1 10 1\n')
+        out.write("11 jz r3 4\n12 sub r3 r2\n13 call deep\n14 ret\n")
+        out.write("15 jz r1 7\n16 sub r1 r2\n17 jump 4\n18 ret\n")
+
+
 def processor_seconds(folder, words):
     before = resource.getrusage(resource.RUSAGE_CHILDREN)
     subprocess.run([PROGRAM, *words], cwd=folder, check=True, stdout=subprocess.DEVNULL)
@@ -108,10 +123,24 @@ def print_table(title, write, name, words, smallest):
         print_row(write, name, words, size * smallest)
 
 
+def print_loops(title, frames, every):
+    print(f"run of a loop, {title}")
+    print(f"{'steps':>10} {'seconds':>9} {'ns/step':>9}", flush=True)
+    for size in SIZES:
+        steps = size * LOOP_STEPS
+        with tempfile.TemporaryDirectory() as folder:
+            write_loop(os.path.join(folder, "loop.guest"), steps, frames)
+            seconds = min(processor_seconds(folder, ["run", "loop.guest", str(every)]) for _ in range(RUNS))
+        print(f"{steps:>10} {seconds:>9.3f} {1e9 * seconds / steps:>9.1f}", flush=True)
+
+
 def main():
     smallest = int(sys.argv[1]) if len(sys.argv) > 1 else 62_500
     print_table("fold", write_list, "list.items", ["fold", "list.items"], smallest)
     print_table("run", write_program, "long.guest", ["run", "long.guest", "1"], INSTRUCTIONS)
+    print_loops("no sample", 7, NO_SAMPLE)
+    print_loops("a sample at every tenth step, 7 frames", 7, 10)
+    print_loops("a sample at every tenth step, 100 frames", 100, 10)
 
 
 if __name__ == "__main__":

@@ -1,7 +1,7 @@
 #!/usr/bin/env python3
 """Works out what the program of this crate must print, from the rules alone: docs/FORMATS.md says
-what a program's text, a file and the printed text are. Item lists are in items.py. The two share nothing
-with the product.
+what a file and the printed text are. Item lists are in items.py, guest programs in programs.py. The three share
+nothing with the product.
 
     ./expected.py <data/cases >stdout
 """
@@ -10,7 +10,8 @@ import re
 import sys
 
 sys.dont_write_bytecode = True  # No folder is to appear beside the script.
-from items import Refused, call_frame, files_of, read_items
+from items import Refused, files_of, read_items
+from programs import BUDGET, ENTRIES, read_program, run_program
 
 SHOWN, SHORT = 1000, 8
 
@@ -59,56 +60,6 @@ def command(words):
     return int(every)
 
 
-NUMBER = "(0|[1-9][0-9]*)"
-QUOTED = r'"((?:[^"\\]|\\["\\])*)"'
-
-
-def read(text):
-    """Returns the function's name, url, script, line and column, and its body as (line, is halt); or
-    the number of the first line at fault and the cause."""
-    lines = text.split("\n")
-    last = lines.pop()
-    if not text:
-        return 1, "nomain"
-    head = re.fullmatch(rf"func main {QUOTED} {QUOTED} {NUMBER} {NUMBER} {NUMBER}", lines[0]) if lines else None
-    if not head:
-        return 1, "word"
-    name, url = (re.sub(r"\\(.)", r"\1", word) for word in head.groups()[:2])
-    script, line, column = (int(word) for word in head.groups()[2:])
-    if not (is_text(name) and is_text(url) and script < 2**32 and 1 <= line <= 10**6 and 1 <= column <= 10**6):
-        return 1, "word"
-    body = []
-    for number, line_text in enumerate(lines[1:], 2):
-        if len(body) == 4096:
-            return number, "limit"
-        at = re.fullmatch(rf"{NUMBER} (?:(halt)|set r{NUMBER} {NUMBER})", line_text)
-        if not at or not 1 <= int(at.group(1)) <= 10**6:
-            return number, "word"
-        if not at.group(2) and not (int(at.group(3)) <= 7 and int(at.group(4)) < 2**64):
-            return number, "word"
-        body.append((int(at.group(1)), bool(at.group(2))))
-    if last or not body[-1][1]:
-        return len(lines) + 1, "word"
-    return (name, url, script, line, column), body
-
-
-def profile(head, body, every):
-    """Returns the file of the one session, the steps of its samples, and the step of the end."""
-    end = next(step for step, (_, halts) in enumerate(body, 1) if halts)
-    steps = list(range(every, end, every))
-    hits = {}
-    for step in steps:
-        hits[body[step][0]] = hits.get(body[step][0], 0) + 1
-    root = {"id": 1, "callFrame": call_frame("(root)", "", 0, 0, 0), "hitCount": 0, "children": [2]}
-    main = {"id": 2, "callFrame": call_frame(*head), "hitCount": len(steps)}
-    if hits:
-        main["positionTicks"] = [{"line": at, "ticks": hits[at]} for at in sorted(hits)]
-    times = [0] + steps
-    deltas = [0] + [later - earlier for earlier, later in zip(times, times[1:])]
-    whole = {"nodes": [root, main], "startTime": 0, "endTime": end, "samples": [2] * len(times), "timeDeltas": deltas}
-    return json.dumps(whole, separators=(",", ":")), steps, end
-
-
 def hash_of(text):
     value = 0xCBF29CE484222325
     for byte in text.encode():
@@ -141,28 +92,41 @@ def half_if(fails, text):
     return text[: len(text) // 2] if fails else text
 
 
+def due_of(cause, end):
+    """The fault of a run that ended so, or None where the guest halted."""
+    return {
+        "halt": None,
+        "overflow": Fault(7, f"guest trap overflow at step {end}"),
+        "offend": Fault(7, f"guest trap offend at step {end}"),
+        "budget": Fault(8, f"budget of {end} steps is spent"),
+        "full": Fault(13, "schedule is full"),
+    }[cause]
+
+
 def run(name, text, every):
-    """Returns the files of `run`, each with its session, the lines that are printed before those of the
-    files, and the schedule."""
-    reading = read(text)
-    if isinstance(reading[0], int):
-        raise Fault(2, f"program {name} line {reading[0]}: {reading[1]}")
-    file, steps, end = profile(*reading, every)
-    entries = [f"  0 0 start 0 {every}"] + [f"  {s} {s} sampled" for s in steps] + [f"  {end} {end} end halt"]
-    schedule = [f"schedule {every} 256 1000000 1048576 entries {len(entries)}"]
+    """Returns the files of `run`, each with its session, what is printed before the lines of the files, the
+    schedule, and the fault that is due."""
+    try:
+        funcs = read_program(text)
+    except Refused as at:
+        raise Fault(2, f"program {name} {at}")
+    file, guest, samples, cause, end = run_program(funcs, every)
+    entries = [f"  0 0 start 0 {every}"] + [f"  {s} {s} sampled" for s in samples] + [f"  {end} {end} end {cause}"]
+    schedule = [f"schedule {every} 256 {BUDGET} {ENTRIES} entries {len(entries)}"]
     if len(entries) <= SHORT:
         schedule += entries
-    return [(1, file)], f"end halt {end}\nsampled {len(steps)} dropped 0\n", schedule
+    printed = f"{guest}end {cause} {end}\nsampled {len(samples)} dropped 0\n"
+    return [(1, file)], printed, schedule, due_of(cause, end)
 
 
 def fold(text):
-    """Returns the same of `fold`, which has no schedule."""
+    """Returns the same of `fold`, which has no schedule, and of which nothing is due."""
     try:
         base, items = read_items(text)
     except Refused as at:
         raise Fault(10, f"items {at}")
     ticks = sum(name == "tick" for name, _ in items)
-    return files_of(base, items), f"items {len(items) - ticks} {ticks}\n", []
+    return files_of(base, items), f"items {len(items) - ticks} {ticks}\n", [], None
 
 
 def work(case):
@@ -181,14 +145,18 @@ def work(case):
 def answer(case):
     status, error, parts, printed, schedule = 0, "", "", "", []
     try:
-        files, printed, schedule = work(case)
+        files, printed, schedule, due = work(case)
         parts, whole, how = delivered(case, files)
         printed += "".join(f"file {session} {len(text)}\n" for session, text in files[:whole])
         out_fails = case.get("out-fails") == "1"
         printed = half_if(out_fails, printed)
         if how == "aborted":
             raise Fault(14, "stream aborted")
-        if how == "failed" or out_fails:
+        if how == "failed":
+            raise Fault(5, "cannot write")
+        if due:
+            raise due
+        if out_fails:
             raise Fault(5, "cannot write")
     except Fault as fault:
         status, error = fault.args

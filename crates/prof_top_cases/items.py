@@ -73,7 +73,7 @@ def value_at(place, rest):
         return word, rest
     require(numbers, "word")
     # No number of more digits is in a range.
-    require(re.fullmatch(r"0|[1-9][0-9]{0,18}", word) and int(word) in numbers, "number")
+    require(re.fullmatch(r"0|[1-9][0-9]{0,19}", word) and int(word) in numbers, "number")
     return int(word), rest
 
 
