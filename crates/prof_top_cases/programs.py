@@ -8,6 +8,7 @@ from items import TEXT, Refused, Session, Tick, file_of, frames_of, number, one_
 
 BUDGET, ENTRIES = 10_000_000, 1_048_576  # the greatest numbers of steps and of entries of a schedule
 FRAMES, MODULUS = 255, 2**64
+SLOTS, DEPTH = 4096, 4  # the most instructions of optimised code, and how many calls deep inline functions go into it
 
 # A place in a line is also for a label of some function, or for a place in the body.
 LABEL, PLACE = "a label", "a place"
@@ -26,7 +27,7 @@ OPS = {
 }
 WAITS = {"idle": "idle", "native": "native", "collect": "gc"}
 
-Func = namedtuple("Func", "label entry body")  # an instruction is a line, the name of an operation, and its values
+Func = namedtuple("Func", "label entry is_inline body")  # an instruction is a line, the name of an operation, and its values
 
 
 def words_of_func(line):
@@ -78,13 +79,14 @@ class Reading:
         self.length = self.lengths[at]
         label, rest = label_at(rest)
         values, rest = self.values(ENTRY, rest)
-        if rest.strip(" "):
+        is_inline = bool(rest.strip(" "))
+        if is_inline:
             _, rest = value_at(one_of("inline"), rest)
         require(not rest.strip(" "), "word")
         entry = tuple(values)
         require(all(label != func.label and entry != func.entry for func in self.funcs), "twice")
         require(len(self.funcs) < 256 and self.length > 0, "limit")
-        self.funcs.append(Func(label, entry, []))
+        self.funcs.append(Func(label, entry, is_inline, []))
 
     def take_instruction(self, rest):
         line, rest = value_at(SOURCE, rest)
@@ -123,10 +125,11 @@ class Frame:
 
 
 class Machine:
-    """A program under way. It knows no optimised code, which no case has."""
+    """A program under way. Of optimised code it knows which functions have some, and which may have none."""
 
     def __init__(self, funcs):
         self.funcs = {func.label: func for func in funcs}
+        self.optimised, self.disabled, self.reasons, self.gave_up = set(), set(), {}, False
         self.stack = [Frame(self.funcs["main"], [0] * 8)]  # the youngest is the last
         self.state, self.rest = "js", 0
         self.printed, self.end = "", None
@@ -137,7 +140,29 @@ class Machine:
             return frames_of([], self.state, [])
         return [(frame.func.entry, frame.body[frame.index][0]) for frame in self.stack]
 
+    def size(self, func, depth=0):
+        """How many instructions its optimised code has."""
+        called = [self.funcs[values[0]] for _, name, values in func.body if name == "call" and depth < DEPTH]
+        return len(func.body) + sum(self.size(callee, depth + 1) for callee in called if callee.is_inline)
+
+    def change(self, name, label, reason):
+        """Does an operation on a function's optimised code."""
+        func = self.funcs[label]
+        if name == "opt" and label not in self.optimised | self.disabled:
+            if self.size(func) <= SLOTS:
+                self.optimised.add(label)
+            else:
+                self.change("noopt", label, "too large")
+        elif name == "deopt" and label in self.optimised:
+            self.optimised.remove(label)
+            self.reasons[func.entry] = reason
+            self.gave_up = True
+        elif name == "noopt":
+            self.disabled.add(label)
+            self.reasons[func.entry] = reason
+
     def step(self):
+        self.gave_up = False
         if self.state != "js":
             self.rest -= 1
             self.state = self.state if self.rest else "js"
@@ -170,8 +195,8 @@ class Machine:
             self.state, self.rest = WAITS[name], values[0]
         elif name in ("set", "add", "sub", "mul", "lt"):
             self.compute(name, goes_on.registers, int(values[0][1]), values[1])
-        else:
-            assert name in ("drop", "gc", "jz"), f"no case has {name}"
+        elif name in ("opt", "deopt", "noopt"):
+            self.change(name, values[0], values[-1])
 
     def compute(self, name, registers, to, value):
         one, other = registers[to], value if name == "set" else registers[int(value[1])]
@@ -195,6 +220,8 @@ def run_program(funcs, every):
             break
         machine.step()
         step += 1
+        if machine.gave_up:
+            ticks.append(Tick(samples[-1] if samples else 0, 0, False, machine.frames()))
         cause = machine.end or ("budget" if step == BUDGET else None)
-    file = file_of(every, Session(every, "leaf", "all", 0, ticks), step, {})
+    file = file_of(every, Session(every, "leaf", "all", 0, ticks), step, machine.reasons)
     return Run(file, machine.printed, samples, cause, step)
