@@ -12,6 +12,8 @@ mod events;
 #[cfg(test)]
 mod profiles;
 #[cfg(test)]
+mod runs;
+#[cfg(test)]
 mod schedules;
 #[cfg(test)]
 mod sessions;
