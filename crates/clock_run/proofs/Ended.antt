@@ -11,11 +11,11 @@ use Rattle.out_stream.specs.AddedParts.{AddsParts}
 use Rattle.out_stream.specs.Parts.{Parts}
 use Rattle.isolate.specs.PlainFile.{plain_files}
 use Rattle.plain_machine.specs.PlainMachine.{plain}
-use Rattle.record_text.specs.ScheduleParts.{ScheduleParts}
-use Rattle.record_text.specs.declared.schedule.EndCause.{EndCause}
-use Rattle.record_text.specs.declared.schedule.EndCause.TheVariants as cause
-use Rattle.record_text.specs.declared.schedule.ScheduleEntry.{ScheduleEntry}
-use Rattle.record_text.specs.declared.schedule.What.TheVariants.{End}
+use Rattle.run_schedule.specs.ScheduleParts.{ScheduleParts}
+use Rattle.run_schedule.specs.declared.schedule.EndCause.{EndCause}
+use Rattle.run_schedule.specs.declared.schedule.EndCause.TheVariants as cause
+use Rattle.run_schedule.specs.declared.schedule.ScheduleEntry.{ScheduleEntry}
+use Rattle.run_schedule.specs.declared.schedule.What.TheVariants.{End}
 use Rattle.raised_so_far.proofs.FilesRaised.{short_turns, whole_runs}
 use Rattle.raised_so_far.specs.FileOrder.{ItemLeavesNoFile}
 use Rattle.raised_so_far.specs.Raised.{EndsFor, IsRaised, IsWhole}

@@ -6,9 +6,9 @@ use Rattle.std.specs.Prelude.{Bool, false, Some, None}
 use Rattle.guest_program.specs.declared.instr.Func.{Func}
 use Rattle.code_event.specs.declared.event.Options.{Options}
 use Rattle.code_event.specs.declared.tick.Item.{Item}
-use Rattle.record_text.specs.ScheduleParts.{ScheduleParts}
-use Rattle.record_text.specs.declared.schedule.EndCause.{EndCause}
-use Rattle.record_text.specs.declared.schedule.EndCause.TheVariants as cause
+use Rattle.run_schedule.specs.ScheduleParts.{ScheduleParts}
+use Rattle.run_schedule.specs.declared.schedule.EndCause.{EndCause}
+use Rattle.run_schedule.specs.declared.schedule.EndCause.TheVariants as cause
 use Rattle.raised_so_far.proofs.Items.{all_joined}
 use Rattle.raised_so_far.specs.FileOrder.{ItemLeavesNoFile}
 use Rattle.isolate_acts.proofs.TurnSteps.{one}

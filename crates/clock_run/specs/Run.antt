@@ -8,9 +8,9 @@ use Rattle.plain_machine.specs.PlainMachine.{plain}
 use Rattle.isolate.specs.Fits.{Fits}
 use Rattle.isolate.specs.PlainFile.{plain_files}
 use Rattle.item_fold.specs.Delivered.{Delivers}
-use Rattle.record_text.specs.Schedule.{IsLegalSchedule}
-use Rattle.record_text.specs.declared.schedule.EndCause.{EndCause}
-use Rattle.record_text.specs.declared.schedule.EndCause.TheVariants as cause
+use Rattle.run_schedule.specs.Schedule.{IsLegalSchedule}
+use Rattle.run_schedule.specs.declared.schedule.EndCause.{EndCause}
+use Rattle.run_schedule.specs.declared.schedule.EndCause.TheVariants as cause
 use Rattle.raised_so_far.specs.FileOrder.{ItemLeavesNoFile}
 use Rattle.raised_so_far.specs.Raised.{EndsFor, IsRaised}
 use Rattle.isolate_acts.specs.Progress.{Moment}

@@ -2,7 +2,7 @@
 ghost use Rattle.std.specs.Prelude.{◌≡◌, ◌≤◌, List, [], map, false, IfOk, IfErr};
 ghost use Rattle.prof_base.specs.declared.interval.TheConstants.{MAX_INTERVAL};
 ghost use Rattle.guest_program.specs.declared.instr.Func.{Func};
-ghost use Rattle.record_text.specs.declared.limits.TheConstants.{MAX_BUDGET, MAX_ENTRIES, MAX_RING, MIN_ENTRIES};
+ghost use Rattle.run_schedule.specs.declared.limits.TheConstants.{MAX_BUDGET, MAX_ENTRIES, MAX_RING, MIN_ENTRIES};
 ghost use Rattle.isolate_turns.specs.declared.state.IsoConfig.{IsoConfig};
 ghost use Rattle.step_clock.specs.ClockCalls.{begun_on};
 ghost use Rattle.step_clock.specs.ClockPorts.{call_of};
@@ -15,7 +15,7 @@ use one_thread::OneThread;
 use out_stream::OutputStream;
 use processor::NoPorts;
 use prof_base::MAX_INTERVAL;
-use record_text::{EndCause, MAX_BUDGET, MAX_ENTRIES, MAX_RING, MIN_ENTRIES};
+use run_schedule::{EndCause, MAX_BUDGET, MAX_ENTRIES, MAX_RING, MIN_ENTRIES};
 use std::alloc::Global;
 use step_clock::StepClock;
 

@@ -4,10 +4,10 @@ use Rattle.std.proofs.lemmas.List.{append_assoc, append-nil}
 use Rattle.std.proofs.Math.Seq.{take-append_seam}
 use Rattle.guest_program.specs.declared.instr.Func.{Func}
 use Rattle.code_event.specs.Seen.{Seen}
-use Rattle.record_text.specs.Schedule.{Course, course_after, course_on, running_after}
-use Rattle.record_text.specs.ScheduleParts.{ScheduleParts}
-use Rattle.record_text.specs.Source.{source_for, source_after}
-use Rattle.record_text.specs.declared.schedule.ScheduleEntry.{ScheduleEntry}
+use Rattle.run_schedule.specs.Schedule.{Course, course_after, course_on, running_after}
+use Rattle.run_schedule.specs.ScheduleParts.{ScheduleParts}
+use Rattle.run_schedule.specs.Source.{source_for, source_after}
+use Rattle.run_schedule.specs.declared.schedule.ScheduleEntry.{ScheduleEntry}
 use Rattle.isolate.specs.PlainFile.{given_up_for, seen_behind, seen_of}
 use Rattle.isolate.specs.RunLaws.{step_behind, time_behind}
 

@@ -16,11 +16,11 @@ use Rattle.code_event.specs.ItemList.{without}
 use Rattle.code_event.specs.Seen.{Seen, ticked}
 use Rattle.code_event.specs.declared.seen.ResolvedTick.{ResolvedTick}
 use Rattle.code_event.proofs.EachElement.{all_filtered, all_mapped, all_pushed}
-use Rattle.record_text.specs.Schedule.{Course, Running, none_yet, course_after, course_on, is_end, HasSession, IsInOrder, EachMayFollow, IsLegalSchedule}
-use Rattle.record_text.specs.ScheduleParts.{ScheduleParts}
-use Rattle.record_text.specs.declared.schedule.What.{What}
-use Rattle.record_text.specs.declared.schedule.What.TheVariants.{Sampled, Dropped, Start, Stop, End}
-use Rattle.record_text.specs.declared.schedule.ScheduleEntry.{ScheduleEntry}
+use Rattle.run_schedule.specs.Schedule.{Course, Running, none_yet, course_after, course_on, is_end, HasSession, IsInOrder, EachMayFollow, IsLegalSchedule}
+use Rattle.run_schedule.specs.ScheduleParts.{ScheduleParts}
+use Rattle.run_schedule.specs.declared.schedule.What.{What}
+use Rattle.run_schedule.specs.declared.schedule.What.TheVariants.{Sampled, Dropped, Start, Stop, End}
+use Rattle.run_schedule.specs.declared.schedule.ScheduleEntry.{ScheduleEntry}
 use Rattle.isolate.specs.PlainFile.{given_up, given_up_for, seen_of, seen_behind, seen_run, tick_at}
 use Rattle.isolate.specs.RunLaws.{ended_by, ended_on}
 use Rattle.isolate.proofs.EntriesMore.{course_on-push}

@@ -4,12 +4,12 @@ use Rattle.guest_program.specs.declared.instr.Func.{Func}
 use Rattle.code_event.specs.FileLaws.{sessions_of}
 use Rattle.code_event.specs.ItemFile.{SessionFile, session}
 use Rattle.code_event.specs.Seen.{Seen}
-use Rattle.record_text.specs.Schedule.{Course, IsLegalSchedule, none_yet, course_after, course_on, running_after}
-use Rattle.record_text.specs.ScheduleParts.{ScheduleParts}
-use Rattle.record_text.specs.Source.{source_after}
-use Rattle.record_text.specs.declared.schedule.What.{What}
-use Rattle.record_text.specs.declared.schedule.What.TheVariants.{Sampled, Stop, End}
-use Rattle.record_text.specs.declared.schedule.ScheduleEntry.{ScheduleEntry}
+use Rattle.run_schedule.specs.Schedule.{Course, IsLegalSchedule, none_yet, course_after, course_on, running_after}
+use Rattle.run_schedule.specs.ScheduleParts.{ScheduleParts}
+use Rattle.run_schedule.specs.Source.{source_after}
+use Rattle.run_schedule.specs.declared.schedule.What.{What}
+use Rattle.run_schedule.specs.declared.schedule.What.TheVariants.{Sampled, Stop, End}
+use Rattle.run_schedule.specs.declared.schedule.ScheduleEntry.{ScheduleEntry}
 use Rattle.isolate.specs.PlainFile.{given_up_for, leaves_files, plain_file, plain_files, seen_of, seen_on, tick_at}
 
 -- the step of the last of these entries, or this step where there are none

@@ -4,7 +4,7 @@ use Rattle.std.proofs.lemmas.List.{append_assoc, append-nil}
 use Rattle.std.specs.Prelude.{Bool, true, false, Option, None}
 use Rattle.guest_program.specs.declared.instr.Func.{Func}
 use Rattle.code_event.specs.declared.tick.Item.{Item}
-use Rattle.record_text.specs.declared.schedule.EndCause.{EndCause}
+use Rattle.run_schedule.specs.declared.schedule.EndCause.{EndCause}
 use Rattle.isolate_acts.proofs.Samples.{sample_stands}
 use Rattle.isolate_acts.proofs.Standing.{start_stands, stop_stands, end_stands, cut_step_stands, cut_command_stands, step_stands}
 use Rattle.isolate_acts.proofs.Within.{acts_within}

@@ -1,8 +1,8 @@
 -- Where a turn is once the isolate has ended.
 use Rattle.std.proofs.Common.{◌≡◌, ℕ, suc, List, [], ◌∷◌, refl, sym, subst}
 use Rattle.std.specs.Prelude.{Bool, true, false, not, ◌==◌, ◌&&◌, ◌||◌, Option, Some, None, is_none, if◌then◌else◌}
-use Rattle.record_text.specs.declared.limits.TheConstants.{MAX_PORT}
-use Rattle.record_text.specs.declared.schedule.EndCause.{EndCause}
+use Rattle.run_schedule.specs.declared.limits.TheConstants.{MAX_PORT}
+use Rattle.run_schedule.specs.declared.schedule.EndCause.{EndCause}
 use Rattle.isolate_acts.specs.ActLaws.{OnlyCommandsFollowTheEnd}
 use Rattle.isolate_acts.specs.Acts.{Act, passes, starts, stops, refuses, cuts_off, asks, samples, steps, ends, ends_short, act_after, moment_after, progress_on}
 use Rattle.isolate_acts.specs.Phases.{Phase, at_port, asking, sampling, stepping, closing, must_end, over, MayAct, LeadTo, IsAfterEnd, after_ports, after_command, after_end, first_phase, most_commands, unless_ended}

@@ -2,11 +2,11 @@
 use Rattle.std.proofs.Common.{◌≡◌, ℕ, ◌+◌, List, [], ◌∷◌, ◌++◌, length, length-append, refl, ap, sym, ◌∙◌, arith}
 use Rattle.std.proofs.lemmas.List.Sums.{sum_by-append}
 use Rattle.std.specs.Prelude.{Bool, true, false, Option, None, cond, count_by, is_none, if◌then◌else◌}
-use Rattle.record_text.specs.Schedule.{Course, none_yet, course_after, course_on, running_after}
-use Rattle.record_text.specs.Source.{source_for}
-use Rattle.record_text.specs.declared.schedule.EndCause.{EndCause}
-use Rattle.record_text.specs.declared.schedule.ScheduleEntry.{ScheduleEntry}
-use Rattle.record_text.specs.declared.schedule.What.TheVariants as what
+use Rattle.run_schedule.specs.Schedule.{Course, none_yet, course_after, course_on, running_after}
+use Rattle.run_schedule.specs.Source.{source_for}
+use Rattle.run_schedule.specs.declared.schedule.EndCause.{EndCause}
+use Rattle.run_schedule.specs.declared.schedule.ScheduleEntry.{ScheduleEntry}
+use Rattle.run_schedule.specs.declared.schedule.What.TheVariants as what
 use Rattle.isolate.proofs.EntriesMore.{course_on-push}
 use Rattle.isolate_acts.specs.Acts.{Act, passes, starts, stops, refuses, cuts_off, asks, samples, steps, ends, ends_short, act_after, act_calls, calls_on, moment_after}
 use Rattle.isolate_acts.specs.CallLaws.{EachCommandIsAnswered, EachEntryHasAReading, PortsKnowTheInterval, interval_after, is_answer, is_command, is_reading, sampling_interval}

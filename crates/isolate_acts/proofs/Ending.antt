@@ -18,8 +18,8 @@ use Rattle.code_event.specs.declared.event.Command.{Command}
 use Rattle.code_event.specs.declared.event.Command.TheVariants as command
 use Rattle.code_event.specs.declared.tick.Item.{Item}
 use Rattle.isolate.specs.PlainFile.{leaves_files}
-use Rattle.record_text.specs.declared.schedule.EndCause.{EndCause}
-use Rattle.record_text.specs.declared.schedule.EndCause.TheVariants as cause
+use Rattle.run_schedule.specs.declared.schedule.EndCause.{EndCause}
+use Rattle.run_schedule.specs.declared.schedule.EndCause.TheVariants as cause
 use Rattle.raised_so_far.proofs.Items.{code_is_not_seen}
 use Rattle.raised_so_far.specs.ItemsSoFar.{IsCodeEvent}
 use Rattle.isolate_acts.proofs.ActsStand.{as_going}

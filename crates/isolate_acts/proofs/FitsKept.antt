@@ -7,12 +7,12 @@ use Rattle.code_event.proofs.EachElement.{all_pushed}
 use Rattle.plain_machine.specs.PlainMachine.{plain}
 use Rattle.plain_machine.specs.declared.ended.Ended.{Ended}
 use Rattle.plain_machine.specs.declared.ended.Ended.TheVariants as ended
-use Rattle.record_text.specs.declared.limits.TheConstants.{MAX_PORT}
-use Rattle.record_text.specs.declared.schedule.EndCause.{EndCause}
-use Rattle.record_text.specs.declared.schedule.EndCause.TheVariants as cause
-use Rattle.record_text.specs.declared.schedule.ScheduleEntry.{ScheduleEntry}
-use Rattle.record_text.specs.declared.schedule.What.{What}
-use Rattle.record_text.specs.declared.schedule.What.TheVariants as what
+use Rattle.run_schedule.specs.declared.limits.TheConstants.{MAX_PORT}
+use Rattle.run_schedule.specs.declared.schedule.EndCause.{EndCause}
+use Rattle.run_schedule.specs.declared.schedule.EndCause.TheVariants as cause
+use Rattle.run_schedule.specs.declared.schedule.ScheduleEntry.{ScheduleEntry}
+use Rattle.run_schedule.specs.declared.schedule.What.{What}
+use Rattle.run_schedule.specs.declared.schedule.What.TheVariants as what
 use Rattle.isolate.specs.Fits.{Fits, IsGoing, MayComeAbout, MayEndFor}
 use Rattle.isolate_acts.specs.Acts.{passes, starts, stops, refuses, cuts_off, asks, samples, steps, ends, ends_short, act_after, moment_after, moment_on, progress_on}
 use Rattle.isolate_acts.specs.FitsSoFar.{HasNotEnded, IsAtStep, FitsSoFar, ActsFit, RunsFit, NewSchedulesFit, TurnsFit, SamplesBetweenTurnsFit}

@@ -15,8 +15,8 @@ use Rattle.plain_machine.specs.PlainFrames.{plain_frames}
 use Rattle.isolate.specs.RunLaws.{last_time}
 use Rattle.pipe_core.proofs.StampedRest.{behind_joins, event_count-append, tick_count-append}
 use Rattle.pipe_core.specs.Stamps.{event_count, tick_count}
-use Rattle.record_text.specs.declared.schedule.What.{What}
-use Rattle.record_text.specs.declared.schedule.What.TheVariants.{Sampled, Dropped}
+use Rattle.run_schedule.specs.declared.schedule.What.{What}
+use Rattle.run_schedule.specs.declared.schedule.What.TheVariants.{Sampled, Dropped}
 use Rattle.raised_so_far.proofs.EntriesRaised.{drops, samples}
 use Rattle.raised_so_far.proofs.Items.{events_of-append}
 use Rattle.raised_so_far.specs.Laws.{IsNow}

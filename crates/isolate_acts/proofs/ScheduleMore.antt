@@ -4,13 +4,13 @@ use Rattle.std.proofs.lemmas.List.{append_assoc, append-nil}
 use Rattle.std.specs.Prelude.{Bool, true, false, ◌||◌, Some, None}
 use Rattle.std.specs.List.{AllByRecursion}
 use Rattle.code_event.proofs.EachElement.{all_mapped, all_pushed}
-use Rattle.record_text.specs.Schedule.{is_sample, is_end, has_end, MayStandBehind, IsInOrder, HasSession, IsAtLastStep, IsEndWithin, IsWithinLimits, MayFollow, EachMayFollow}
-use Rattle.record_text.specs.ScheduleParts.{ScheduleParts, port_of}
-use Rattle.record_text.specs.declared.schedule.EndCause.{EndCause}
-use Rattle.record_text.specs.declared.schedule.EndCause.TheVariants as cause
-use Rattle.record_text.specs.declared.schedule.ScheduleEntry.{ScheduleEntry}
-use Rattle.record_text.specs.declared.schedule.What.{What}
-use Rattle.record_text.specs.declared.schedule.What.TheVariants as what
+use Rattle.run_schedule.specs.Schedule.{is_sample, is_end, has_end, MayStandBehind, IsInOrder, HasSession, IsAtLastStep, IsEndWithin, IsWithinLimits, MayFollow, EachMayFollow}
+use Rattle.run_schedule.specs.ScheduleParts.{ScheduleParts, port_of}
+use Rattle.run_schedule.specs.declared.schedule.EndCause.{EndCause}
+use Rattle.run_schedule.specs.declared.schedule.EndCause.TheVariants as cause
+use Rattle.run_schedule.specs.declared.schedule.ScheduleEntry.{ScheduleEntry}
+use Rattle.run_schedule.specs.declared.schedule.What.{What}
+use Rattle.run_schedule.specs.declared.schedule.What.TheVariants as what
 use Rattle.isolate.specs.RunLaws.{last_time}
 use Rattle.raised_so_far.proofs.Entries.{last_time-push}
 use Rattle.isolate_acts.specs.Phases.{Phase}

@@ -6,9 +6,9 @@ use native.Mathlib.Decide.{dec_le}
 use Rattle.std.specs.Prelude.{Bool, true, false, not, ◌&&◌, ◌||◌, ◌==◌, is_none, Some, None, if◌then◌else◌}
 use Rattle.std.specs.List.{AllByRecursion}
 use Rattle.code_event.proofs.EachElement.{all_mapped, all_pushed}
-use Rattle.record_text.specs.Schedule.{is_sample, is_end, HasSession, IsAtLastStep, IsWithinLimits}
-use Rattle.record_text.specs.ScheduleParts.{port_of}
-use Rattle.record_text.specs.declared.schedule.What.{What}
+use Rattle.run_schedule.specs.Schedule.{is_sample, is_end, HasSession, IsAtLastStep, IsWithinLimits}
+use Rattle.run_schedule.specs.ScheduleParts.{port_of}
+use Rattle.run_schedule.specs.declared.schedule.What.{What}
 use Rattle.isolate.specs.RunLaws.{last_time}
 use Rattle.isolate_acts.specs.Phases.{Phase, at_port, asking, sampling, stepping, must_end, over, HasRoom, after_ports, after_command, unless_ended, most_commands}
 use Rattle.isolate_acts.specs.Progress.{Progress, running_now, entry_now, with_entry, goes_on, is_filled, some_runs}

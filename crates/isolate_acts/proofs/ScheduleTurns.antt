@@ -3,8 +3,8 @@ use Rattle.std.proofs.Common.{◌≡◌, suc, ◌≤◌, [], length, refl, ap, s
 use Rattle.std.specs.Prelude.{Bool, true, false, ◌&&◌, ◌||◌, if◌then◌else◌}
 use Rattle.std.specs.List.{AllByRecursion}
 use Rattle.code_event.proofs.EachElement.{all_mapped}
-use Rattle.record_text.specs.Schedule.{is_end, EachMayFollow}
-use Rattle.record_text.specs.declared.schedule.What.TheVariants as what
+use Rattle.run_schedule.specs.Schedule.{is_end, EachMayFollow}
+use Rattle.run_schedule.specs.declared.schedule.What.TheVariants as what
 use Rattle.isolate.specs.RunLaws.{last_time}
 use Rattle.isolate_acts.specs.Acts.{moment_on, progress_on}
 use Rattle.isolate_acts.specs.Phases.{Phase, at_port, sampling, stepping, closing, must_end, over, first_phase, unless_ended, IsOver}

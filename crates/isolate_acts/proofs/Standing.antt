@@ -31,10 +31,10 @@ use Rattle.isolate.specs.PlainFile.{given_up_for, tick_at, leaves_files}
 use Rattle.isolate.specs.RunLaws.{last_time}
 use Rattle.pipe_core.proofs.StampedRest.{behind_joins, event_count-append, tick_count-append}
 use Rattle.pipe_core.specs.Stamps.{event_count, tick_count}
-use Rattle.record_text.specs.Schedule.{Running, HasSession, none_yet, course_on}
-use Rattle.record_text.specs.declared.schedule.EndCause.{EndCause}
-use Rattle.record_text.specs.declared.schedule.EndCause.TheVariants as cause
-use Rattle.record_text.specs.declared.schedule.What.TheVariants as what
+use Rattle.run_schedule.specs.Schedule.{Running, HasSession, none_yet, course_on}
+use Rattle.run_schedule.specs.declared.schedule.EndCause.{EndCause}
+use Rattle.run_schedule.specs.declared.schedule.EndCause.TheVariants as cause
+use Rattle.run_schedule.specs.declared.schedule.What.TheVariants as what
 use Rattle.raised_so_far.proofs.EntriesRaised.{same_reasons, starts as start_raised, stops as stop_raised}
 use Rattle.raised_so_far.proofs.Files.{ends as end_raised, short_turns}
 use Rattle.raised_so_far.proofs.Items.{events_of-append, legal_more, reasons-more}

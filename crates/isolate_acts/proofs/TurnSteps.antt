@@ -1,9 +1,9 @@
 -- At which step a turn is.
 use Rattle.std.proofs.Common.{◌≡◌, ℕ, suc, List, [], ◌∷◌, refl, ap, sym, subst, ◌∙◌}
 use Rattle.std.specs.Prelude.{Bool, true, false, not, ◌==◌, ◌&&◌, ◌||◌, Some, None, if◌then◌else◌}
-use Rattle.record_text.specs.declared.limits.TheConstants.{MAX_PORT}
-use Rattle.record_text.specs.declared.schedule.EndCause.{EndCause}
-use Rattle.record_text.specs.declared.schedule.EndCause.TheVariants as cause
+use Rattle.run_schedule.specs.declared.limits.TheConstants.{MAX_PORT}
+use Rattle.run_schedule.specs.declared.schedule.EndCause.{EndCause}
+use Rattle.run_schedule.specs.declared.schedule.EndCause.TheVariants as cause
 use Rattle.isolate_acts.specs.Acts.{Act, passes, starts, stops, refuses, cuts_off, asks, samples, steps, ends, ends_short, act_after, moment_after, moment_on, progress_on}
 use Rattle.isolate_acts.specs.Phases.{Phase, at_port, asking, sampling, stepping, closing, must_end, over, MayAct, LeadTo, IsDue, IsOver, after_ports, after_command, after_end, first_phase, most_commands, unless_ended}
 use Rattle.isolate_acts.specs.Progress.{Moment, Progress, goes_on, is_filled, some_runs}

@@ -3,7 +3,7 @@ use Rattle.std.specs.Prelude.{◌≡◌, List, [], ◌++◌, Some, None}
 use Rattle.guest_program.specs.declared.instr.Func.{Func}
 use Rattle.code_event.specs.ItemFile.{item_files}
 use Rattle.code_event.specs.declared.tick.Item.{Item}
-use Rattle.record_text.specs.declared.schedule.EndCause.TheVariants as cause
+use Rattle.run_schedule.specs.declared.schedule.EndCause.TheVariants as cause
 use Rattle.isolate_acts.specs.Acts.{Act, act_after, act_raises, moment_after, moment_on, progress_on, raised_on}
 use Rattle.isolate_acts.specs.Phases.{Phase, MayAct, LeadTo, IsAfterEnd, first_phase}
 use Rattle.isolate_acts.specs.Progress.{Moment, Progress, IsWithin}

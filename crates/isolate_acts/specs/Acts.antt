@@ -13,9 +13,9 @@ use Rattle.code_event.specs.declared.tick.Item.{Item}
 use Rattle.code_event.specs.declared.tick.Item.TheVariants as item
 use Rattle.code_event.specs.declared.tick.Tick.{Tick}
 use Rattle.plain_machine.specs.PlainMachine.{deopts}
-use Rattle.record_text.specs.declared.schedule.EndCause.{EndCause}
-use Rattle.record_text.specs.declared.schedule.EndCause.TheVariants as cause
-use Rattle.record_text.specs.declared.schedule.What.TheVariants as what
+use Rattle.run_schedule.specs.declared.schedule.EndCause.{EndCause}
+use Rattle.run_schedule.specs.declared.schedule.EndCause.TheVariants as cause
+use Rattle.run_schedule.specs.declared.schedule.What.TheVariants as what
 use Rattle.isolate.specs.PlainFile.{leaves_files}
 use Rattle.isolate.specs.RunLaws.{last_time}
 use Rattle.isolate_acts.specs.Calls.{Call, commanded, answered, asked, read, told}

@@ -13,11 +13,11 @@ use Rattle.code_event.specs.declared.event.TheConstants.{MAX_SESSIONS}
 use Rattle.plain_machine.specs.PlainMachine.{plain}
 use Rattle.plain_machine.specs.PlainFrames.{reasons_of}
 use Rattle.plain_machine.specs.declared.ended.Ended.TheVariants as guest_end
-use Rattle.record_text.specs.Schedule.{HasSession}
-use Rattle.record_text.specs.declared.limits.TheConstants.{MAX_PORT}
-use Rattle.record_text.specs.declared.schedule.EndCause.{EndCause}
-use Rattle.record_text.specs.declared.schedule.EndCause.TheVariants as cause
-use Rattle.record_text.specs.declared.schedule.What.TheVariants as what
+use Rattle.run_schedule.specs.Schedule.{HasSession}
+use Rattle.run_schedule.specs.declared.limits.TheConstants.{MAX_PORT}
+use Rattle.run_schedule.specs.declared.schedule.EndCause.{EndCause}
+use Rattle.run_schedule.specs.declared.schedule.EndCause.TheVariants as cause
+use Rattle.run_schedule.specs.declared.schedule.What.TheVariants as what
 use Rattle.raised_so_far.specs.ItemsSoFar.{IsCodeEvent}
 use Rattle.isolate_acts.specs.Acts.{Act, passes, starts, stops, refuses, cuts_off, asks, samples, steps, ends, ends_short, act_after, moment_after}
 use Rattle.isolate_acts.specs.Progress.{Moment, Progress, entry_count, goes_on, is_filled, running_now, some_runs}

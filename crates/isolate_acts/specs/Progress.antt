@@ -4,12 +4,12 @@ use Rattle.prof_base.specs.declared.ids.SessionId.{SessionId}
 use Rattle.guest_program.specs.declared.instr.Func.{Func}
 use Rattle.code_event.specs.declared.code_map.Range.{Range}
 use Rattle.code_event.specs.declared.tick.VmState.{VmState}
-use Rattle.record_text.specs.Schedule.{Running, running_after}
-use Rattle.record_text.specs.ScheduleParts.{ScheduleParts, IsInRange}
-use Rattle.record_text.specs.Source.{source_for}
-use Rattle.record_text.specs.declared.schedule.EndCause.{EndCause}
-use Rattle.record_text.specs.declared.schedule.ScheduleEntry.{ScheduleEntry}
-use Rattle.record_text.specs.declared.schedule.What.{What}
+use Rattle.run_schedule.specs.Schedule.{Running, running_after}
+use Rattle.run_schedule.specs.ScheduleParts.{ScheduleParts, IsInRange}
+use Rattle.run_schedule.specs.Source.{source_for}
+use Rattle.run_schedule.specs.declared.schedule.EndCause.{EndCause}
+use Rattle.run_schedule.specs.declared.schedule.ScheduleEntry.{ScheduleEntry}
+use Rattle.run_schedule.specs.declared.schedule.What.{What}
 use Rattle.isolate.specs.RunLaws.{last_time}
 use Rattle.raised_so_far.specs.Laws.{next_number}
 

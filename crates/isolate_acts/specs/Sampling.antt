@@ -3,7 +3,7 @@ use Rattle.std.specs.Prelude.{ℕ, suc, List, [], ◌∷◌, Bool, true, false, 
 use Rattle.code_event.specs.declared.tick.Item.{Item}
 use Rattle.code_event.specs.declared.tick.Item.TheVariants as item
 use Rattle.code_event.specs.declared.tick.Tick.{Tick}
-use Rattle.record_text.specs.declared.schedule.What.TheVariants.{Sampled, Dropped}
+use Rattle.run_schedule.specs.declared.schedule.What.TheVariants.{Sampled, Dropped}
 use Rattle.isolate_acts.specs.Progress.{Moment, Progress, source_now, entry_time, entry_now, with_entry}
 
 -- the tick of a sample: a hit for all sessions, with the source interval and the guest's frames

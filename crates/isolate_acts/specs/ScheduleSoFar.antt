@@ -1,9 +1,9 @@
 -- That the schedule so far keeps the rules of schedules.
 use Rattle.std.specs.Prelude.{◌≡◌, ℕ, ◌^◌, ◌<◌, ◌≤◌, List, [], ◌∷◌, count_by, Bool, true, false, Some, None}
 use Rattle.std.specs.List.{AllByRecursion}
-use Rattle.record_text.specs.Schedule.{is_sample, is_sampled, is_end, has_end, EachMayFollow, IsAtLastStep, IsLegalSchedule}
-use Rattle.record_text.specs.ScheduleParts.{port_of}
-use Rattle.record_text.specs.declared.schedule.What.{What}
+use Rattle.run_schedule.specs.Schedule.{is_sample, is_sampled, is_end, has_end, EachMayFollow, IsAtLastStep, IsLegalSchedule}
+use Rattle.run_schedule.specs.ScheduleParts.{port_of}
+use Rattle.run_schedule.specs.declared.schedule.What.{What}
 use Rattle.isolate.specs.RunLaws.{last_time}
 use Rattle.isolate_acts.specs.Acts.{Act, samples, act_after, moment_after, moment_on, progress_on}
 use Rattle.isolate_acts.specs.Phases.{Phase, at_port, asking, sampling, closing, must_end, over, first_phase, HasRoom, MayAct, LeadTo, IsOver}

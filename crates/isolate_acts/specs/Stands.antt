@@ -8,7 +8,7 @@ use Rattle.code_event.specs.declared.tick.Item.{Item}
 use Rattle.plain_machine.specs.PlainMachine.{plain}
 use Rattle.plain_machine.specs.PlainFrames.{plain_frames}
 use Rattle.pipe_core.specs.Stamps.{event_count, tick_count}
-use Rattle.record_text.specs.declared.schedule.EndCause.{EndCause}
+use Rattle.run_schedule.specs.declared.schedule.EndCause.{EndCause}
 use Rattle.raised_so_far.specs.Raised.{IsRaised, IsWhole}
 use Rattle.isolate_acts.specs.Progress.{Moment, Progress}
 

@@ -1,6 +1,6 @@
 -- The steps of a turn.
 use Rattle.std.specs.Prelude.{◌≡◌, suc, List, Some, None}
-use Rattle.record_text.specs.declared.schedule.EndCause.TheVariants as cause
+use Rattle.run_schedule.specs.declared.schedule.EndCause.TheVariants as cause
 use Rattle.isolate_acts.specs.Acts.{Act, moment_on, progress_on}
 use Rattle.isolate_acts.specs.Phases.{Phase, LeadTo, IsOver, first_phase}
 use Rattle.isolate_acts.specs.Progress.{Moment, Progress}

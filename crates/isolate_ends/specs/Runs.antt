@@ -1,10 +1,10 @@
 -- An isolate with its ports and its queues, and what an act and a run of acts make of it.
 use Rattle.std.specs.Prelude.{◌≡◌, ℕ, suc, ◌<◌, ◌+◌, List, ◌++◌, count_by, Bool, true, false, Option, Some, None}
 use Rattle.prof_base.specs.Causes.{Rose}
-use Rattle.record_text.specs.declared.schedule.EndCause.{EndCause}
-use Rattle.record_text.specs.declared.schedule.ScheduleEntry.{ScheduleEntry}
-use Rattle.record_text.specs.declared.schedule.What.{What}
-use Rattle.record_text.specs.declared.schedule.What.TheVariants.{Dropped}
+use Rattle.run_schedule.specs.declared.schedule.EndCause.{EndCause}
+use Rattle.run_schedule.specs.declared.schedule.ScheduleEntry.{ScheduleEntry}
+use Rattle.run_schedule.specs.declared.schedule.What.{What}
+use Rattle.run_schedule.specs.declared.schedule.What.TheVariants.{Dropped}
 use Rattle.pipe_core.specs.Observed.{IsObserved}
 use Rattle.isolate_acts.specs.Acts.{Act, act_after, act_calls, act_raises, calls_on, moment_after, moment_on, progress_on, raised_on}
 use Rattle.isolate_acts.specs.Calls.{Call, with_calls}

@@ -16,7 +16,7 @@ pub trait IsoPorts {
     /// Which ports they are. No call changes it.
     ghost ports_home: { Self → List ℕ };
 
-    /// Returns the next command of a port, from 0 to [`record_text::MAX_PORT`], after this many steps of
+    /// Returns the next command of a port, from 0 to [`run_schedule::MAX_PORT`], after this many steps of
     /// the guest, or none for now.
     fn command(&mut self, port: u8, step: u64) -> Option<Command>
         ensures home { ports_home self.new ≡ ports_home self.old }

@@ -1,5 +1,5 @@
 // What a turn of an isolate comes to.
-use record_text::EndCause;
+use run_schedule::EndCause;
 
 /// What a turn came to.
 #[derive(Clone, Copy, Debug, PartialEq, Eq)]

@@ -1,10 +1,10 @@
 -- One more entry: what is kept agrees with the schedule again.
 use Rattle.std.proofs.Common.{◌≡◌, ℕ, suc, ◌+◌, ◌^◌, ◌<◌, ◌≤◌, [], ◌∷◌, ◌++◌, length, length-append, sym, subst, ap, ◌∙◌, arith}
-use Rattle.record_text.specs.Schedule.{Course, none_yet, course_after}
-use Rattle.record_text.specs.ScheduleParts.{ScheduleParts, HasPort}
-use Rattle.record_text.specs.declared.schedule.ScheduleEntry.{ScheduleEntry}
-use Rattle.record_text.specs.declared.schedule.What.{What}
-use Rattle.record_text.specs.declared.schedule.What.TheVariants as what
+use Rattle.run_schedule.specs.Schedule.{Course, none_yet, course_after}
+use Rattle.run_schedule.specs.ScheduleParts.{ScheduleParts, HasPort}
+use Rattle.run_schedule.specs.declared.schedule.ScheduleEntry.{ScheduleEntry}
+use Rattle.run_schedule.specs.declared.schedule.What.{What}
+use Rattle.run_schedule.specs.declared.schedule.What.TheVariants as what
 use Rattle.isolate.proofs.EntriesMore.{course_on-push}
 use Rattle.raised_so_far.proofs.Entries.{last_time-push}
 use Rattle.isolate_acts.proofs.Within.{entry_within}

@@ -5,8 +5,8 @@ use Rattle.std.proofs.lemmas.List.Folds.{Any-from_list_any, list_any_at}
 use Rattle.std.specs.Prelude.{Bool, true, refl, ◌↔◌, ◌==◌, IsTrue, Contains}
 use Rattle.std.specs.List.{list_any}
 use Rattle.prof_base.specs.declared.ids.SessionId.{SessionId}
-use Rattle.record_text.specs.Schedule.{Running, HasSession}
-use Rattle.record_text.specs.declared.schedule.What.TheVariants as what
+use Rattle.run_schedule.specs.Schedule.{Running, HasSession}
+use Rattle.run_schedule.specs.declared.schedule.What.TheVariants as what
 use Rattle.isolate_progress.specs.Held.{is_session_of}
 
 abbrev with_parts : ℕ → ℕ → ℕ → Running

@@ -4,9 +4,9 @@ use Rattle.std.proofs.lemmas.List.{map-append, take_more}
 use Rattle.std.proofs.lemmas.Nat.Gcd.{same_from_IsGcd}
 use Rattle.std.specs.Int.{IsGcd}
 use Rattle.prof_base.specs.Interval.{rounded_of}
-use Rattle.record_text.specs.Schedule.{Running}
-use Rattle.record_text.specs.Source.{gcd, source_with, source_for}
-use Rattle.record_text.proofs.Sources.{gcd_is_greatest}
+use Rattle.run_schedule.specs.Schedule.{Running}
+use Rattle.run_schedule.specs.Source.{gcd, source_with, source_for}
+use Rattle.run_schedule.proofs.Sources.{gcd_is_greatest}
 
 -- a greatest common divisor is the computed one
 gcd_is_one : (a b g : ℕ) → IsGcd a b g → g ≡ gcd a b

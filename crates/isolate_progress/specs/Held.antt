@@ -2,9 +2,9 @@
 use Rattle.std.specs.Prelude.{◌≡◌, ℕ, suc, ◌+◌, ◌*◌, ◌^◌, ◌≤◌, List, length, Bool, ◌&&◌, ◌==◌}
 use Rattle.code_event.specs.declared.event.TheConstants.{MAX_SESSIONS}
 use Rattle.prof_base.specs.declared.interval.TheConstants.{MAX_INTERVAL}
-use Rattle.record_text.specs.Schedule.{Running, Course, none_yet, course_on}
-use Rattle.record_text.specs.declared.schedule.What.{What}
-use Rattle.record_text.specs.declared.schedule.What.TheVariants.{Start}
+use Rattle.run_schedule.specs.Schedule.{Running, Course, none_yet, course_on}
+use Rattle.run_schedule.specs.declared.schedule.What.{What}
+use Rattle.run_schedule.specs.declared.schedule.What.TheVariants.{Start}
 use Rattle.isolate.specs.RunLaws.{last_time}
 use Rattle.isolate_acts.specs.Progress.{Progress, IsWithin, entry_count}
 

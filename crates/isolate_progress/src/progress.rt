@@ -1,9 +1,9 @@
 // How far an isolate is.
 ghost use Rattle.std.specs.Prelude.{◌≡◌, ◌↔◌, ◌+◌, ◌*◌, ◌^◌, ◌<◌, ◌≤◌, ◌==◌, [], None, Some, false, if◌then◌else◌, length, nat_lt, suc, true, IfOk, IsTrue};
-ghost use Rattle.record_text.specs.declared.schedule.EndCause.TheVariants as cause;
-ghost use Rattle.record_text.specs.declared.schedule.What.TheVariants as what;
-ghost use Rattle.record_text.specs.ScheduleParts.{HasPort};
-ghost use Rattle.record_text.specs.Schedule.{HasSession};
+ghost use Rattle.run_schedule.specs.declared.schedule.EndCause.TheVariants as cause;
+ghost use Rattle.run_schedule.specs.declared.schedule.What.TheVariants as what;
+ghost use Rattle.run_schedule.specs.ScheduleParts.{HasPort};
+ghost use Rattle.run_schedule.specs.Schedule.{HasSession};
 ghost use Rattle.isolate.specs.RunLaws.{last_time};
 ghost use Rattle.isolate_acts.specs.Progress.{IsWithin, entry_count, entry_now, entry_time, goes_on, is_filled, next_session, running_now, some_runs, source_now, with_entry};
 ghost use Rattle.isolate_acts.specs.Sampling.{after_sample};
@@ -12,7 +12,7 @@ ghost use Rattle.isolate_progress.specs.Held.{IsStartable};
 use crate::sessions::Sessions;
 use code_event::{MAX_SESSIONS, Options};
 use prof_base::{MAX_INTERVAL, Memory, Micros, SessionId};
-use record_text::{
+use run_schedule::{
     EndCause, MAX_BUDGET, MAX_ENTRIES, MAX_PORT, MAX_RING, MIN_ENTRIES, Schedule, ScheduleEntry,
     What,
 };

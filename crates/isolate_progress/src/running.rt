@@ -16,7 +16,7 @@ pub(crate) struct RunningSession {
 impl Model for RunningSession {
     ghost use Rattle.std.specs.Prelude.{◌≤◌};
     ghost use Rattle.prof_base.specs.declared.interval.TheConstants.{MAX_INTERVAL};
-    ghost use Rattle.record_text.specs.Schedule.{Running};
+    ghost use Rattle.run_schedule.specs.Schedule.{Running};
 
     ghost Value = { Running };
 

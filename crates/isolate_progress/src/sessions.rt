@@ -2,15 +2,15 @@
 ghost use Rattle.std.specs.Prelude.{◌≡◌, ◌↔◌, ◌<◌, ◌≤◌, ◌==◌, ◌^◌, suc, filter, length, map, not, vec_capacity, IfOk, IsTrue};
 ghost use Rattle.std.specs.List.{list_any};
 ghost use Rattle.prof_base.specs.Interval.{rounded_of};
-ghost use Rattle.record_text.specs.Schedule.{HasSession, none_yet, course_after};
-ghost use Rattle.record_text.specs.Source.{gcd, source_for};
-ghost use Rattle.record_text.specs.declared.schedule.What.TheVariants as what;
+ghost use Rattle.run_schedule.specs.Schedule.{HasSession, none_yet, course_after};
+ghost use Rattle.run_schedule.specs.Source.{gcd, source_for};
+ghost use Rattle.run_schedule.specs.declared.schedule.What.TheVariants as what;
 ghost use Rattle.isolate_progress.specs.Held.{IsStartable, is_session_of};
 
 use crate::running::RunningSession;
 use code_event::{MAX_SESSIONS, Options};
 use prof_base::{MAX_INTERVAL, MAX_ROUNDED, Memory, SessionId, gcd, rounded};
-use record_text::What;
+use run_schedule::What;
 use std::alloc::Global;
 use std::marker::Model;
 
@@ -69,7 +69,7 @@ impl Model for Sessions {
     ghost use Rattle.std.specs.Prelude.{◌≡◌, ◌≤◌, length, vec_capacity};
     ghost use Rattle.prof_base.specs.declared.interval.TheConstants.{MAX_INTERVAL};
     ghost use Rattle.code_event.specs.declared.event.TheConstants.{MAX_SESSIONS};
-    ghost use Rattle.record_text.specs.Source.{source_for};
+    ghost use Rattle.run_schedule.specs.Source.{source_for};
     ghost use Rattle.isolate_progress.specs.Held.{SessionsSoFar};
 
     ghost Value = { SessionsSoFar };

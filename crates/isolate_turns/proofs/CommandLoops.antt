@@ -5,8 +5,8 @@ use Rattle.std.proofs.lemmas.List.{append_assoc, append-nil}
 use Rattle.std.proofs.lemmas.List.Sums.{sum_by-append}
 use Rattle.std.specs.Prelude.{Bool, None, count_by, cond, ◌==◌, if◌then◌else◌}
 use Rattle.guest_machine.specs.declared.machine.Machine.{Machine}
-use Rattle.record_text.specs.declared.limits.TheConstants.{MAX_PORT}
-use Rattle.record_text.specs.declared.schedule.ScheduleEntry.{ScheduleEntry}
+use Rattle.run_schedule.specs.declared.limits.TheConstants.{MAX_PORT}
+use Rattle.run_schedule.specs.declared.schedule.ScheduleEntry.{ScheduleEntry}
 use Rattle.isolate_guest.specs.Guest.{IsAt}
 use Rattle.isolate_acts.specs.Phases.{Phase, at_port, after_command, after_ports, most_commands}
 use Rattle.isolate_acts.specs.Progress.{Moment, Progress}

@@ -2,9 +2,9 @@
 use Rattle.std.proofs.Common.{◌≡◌, ℕ, suc, ◌<◌, List, [], ◌∷◌, true, false, true≢false, refl, ap, sym, subst, ◌∙◌}
 use Rattle.std.specs.Prelude.{Bool, Option, Some, None, not, is_none, ◌&&◌, ◌||◌, ◌==◌, if◌then◌else◌}
 use Rattle.code_event.specs.declared.tick.VmState.TheVariants as state
-use Rattle.record_text.specs.declared.limits.TheConstants.{MAX_PORT}
-use Rattle.record_text.specs.declared.schedule.EndCause.{EndCause}
-use Rattle.record_text.specs.declared.schedule.EndCause.TheVariants as cause
+use Rattle.run_schedule.specs.declared.limits.TheConstants.{MAX_PORT}
+use Rattle.run_schedule.specs.declared.schedule.EndCause.{EndCause}
+use Rattle.run_schedule.specs.declared.schedule.EndCause.TheVariants as cause
 use Rattle.isolate_acts.specs.Acts.{act_after, ends, passes}
 use Rattle.isolate_acts.specs.Calls.{Call, commanded, with_calls}
 use Rattle.isolate_acts.specs.Phases.{Phase, MayAct, at_port, asking, stepping, over, must_end, after_command, after_end, after_ports, most_commands, unless_ended}

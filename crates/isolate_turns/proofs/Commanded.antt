@@ -14,12 +14,12 @@ use Rattle.code_event.specs.declared.event.Options.{Options}
 use Rattle.code_event.specs.declared.event.TheConstants.{MAX_SESSIONS}
 use Rattle.code_event.specs.declared.tick.Item.TheVariants as item
 use Rattle.code_event.specs.declared.tick.Tick.{Tick}
-use Rattle.record_text.specs.Schedule.{HasSession}
-use Rattle.record_text.specs.declared.limits.TheConstants.{MAX_PORT}
-use Rattle.record_text.specs.declared.schedule.EndCause.{EndCause}
-use Rattle.record_text.specs.declared.schedule.EndCause.TheVariants as cause
-use Rattle.record_text.specs.declared.schedule.ScheduleEntry.{ScheduleEntry}
-use Rattle.record_text.specs.declared.schedule.What.TheVariants as what
+use Rattle.run_schedule.specs.Schedule.{HasSession}
+use Rattle.run_schedule.specs.declared.limits.TheConstants.{MAX_PORT}
+use Rattle.run_schedule.specs.declared.schedule.EndCause.{EndCause}
+use Rattle.run_schedule.specs.declared.schedule.EndCause.TheVariants as cause
+use Rattle.run_schedule.specs.declared.schedule.ScheduleEntry.{ScheduleEntry}
+use Rattle.run_schedule.specs.declared.schedule.What.TheVariants as what
 use Rattle.isolate_acts.specs.Acts.{act_after, act_raises, after_short, cut_marks, cuts_off, numbered, refuses, starts, stops}
 use Rattle.isolate_acts.specs.Calls.{Call, answered, commanded, read, told, with_calls}
 use Rattle.isolate_acts.specs.Phases.{HasRoom, IsLegalCommand, IsRefused, after_command, unless_ended}

@@ -12,10 +12,10 @@ use Rattle.code_event.specs.declared.tick.Item.TheVariants as item
 use Rattle.pipe_core.specs.Observed.{IsObserved}
 use Rattle.plain_machine.specs.PlainMachine.{plain}
 use Rattle.guest_machine.specs.declared.machine.Machine.{Machine}
-use Rattle.record_text.specs.declared.schedule.EndCause.{EndCause}
-use Rattle.record_text.specs.declared.schedule.EndCause.TheVariants as cause
-use Rattle.record_text.specs.declared.schedule.ScheduleEntry.{ScheduleEntry}
-use Rattle.record_text.specs.declared.schedule.What.TheVariants.{Sampled, Dropped}
+use Rattle.run_schedule.specs.declared.schedule.EndCause.{EndCause}
+use Rattle.run_schedule.specs.declared.schedule.EndCause.TheVariants as cause
+use Rattle.run_schedule.specs.declared.schedule.ScheduleEntry.{ScheduleEntry}
+use Rattle.run_schedule.specs.declared.schedule.What.TheVariants.{Sampled, Dropped}
 use Rattle.raised_so_far.specs.ItemsSoFar.{IsCodeEvent}
 use Rattle.isolate_acts.specs.Acts.{act_after, act_raises, after_short, asks, ends, ends_short, numbered, samples, steps}
 use Rattle.isolate_acts.specs.Calls.{Call, asked, read, told, with_calls}

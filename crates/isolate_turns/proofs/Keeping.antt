@@ -4,7 +4,7 @@ use Rattle.std.proofs.lemmas.List.{append_assoc, append-nil}
 use Rattle.std.specs.Prelude.{Option, None}
 use Rattle.guest_program.specs.declared.instr.Func.{Func}
 use Rattle.code_event.specs.declared.tick.Item.{Item}
-use Rattle.record_text.specs.declared.schedule.EndCause.{EndCause}
+use Rattle.run_schedule.specs.declared.schedule.EndCause.{EndCause}
 use Rattle.raised_so_far.proofs.StepsRaised.{openings}
 use Rattle.isolate_acts.proofs.ActsStand.{acts_stand, moment_kept, runs_stand}
 use Rattle.isolate_acts.proofs.FitsKept.{new_fits, samples_fit, turns_fit}

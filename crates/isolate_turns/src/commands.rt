@@ -4,9 +4,9 @@ ghost use Rattle.code_event.specs.declared.event.CodeEvent.TheVariants as event;
 ghost use Rattle.code_event.specs.declared.event.Command.TheVariants as command;
 ghost use Rattle.code_event.specs.declared.event.TheConstants.{MAX_SESSIONS};
 ghost use Rattle.code_event.specs.declared.tick.Item.TheVariants as item;
-ghost use Rattle.record_text.specs.Schedule.{HasSession};
-ghost use Rattle.record_text.specs.declared.limits.TheConstants.{MAX_PORT};
-ghost use Rattle.record_text.specs.declared.schedule.What.TheVariants as what;
+ghost use Rattle.run_schedule.specs.Schedule.{HasSession};
+ghost use Rattle.run_schedule.specs.declared.limits.TheConstants.{MAX_PORT};
+ghost use Rattle.run_schedule.specs.declared.schedule.What.TheVariants as what;
 ghost use Rattle.guest_machine.specs.Machine.{IsMachine};
 ghost use Rattle.isolate_guest.specs.Guest.{IsAt};
 ghost use Rattle.isolate_acts.specs.Acts.{cut_marks, event_of, numbered, start_mark, start_tick};
@@ -23,7 +23,7 @@ use code_event::{Answer, CodeEvent, Command, EventRecord, Frames, MAX_SESSIONS, 
 use isolate_ends::IsoPorts;
 use pipe_core::{Offer, Tail};
 use prof_base::SessionId;
-use record_text::{EndCause, MAX_PORT};
+use run_schedule::{EndCause, MAX_PORT};
 
 // The number of commands that a turn takes at most, of all ports together.
 const MOST_COMMANDS: u32 = 1_048_576;

@@ -25,7 +25,7 @@ use isolate_guest::Guest;
 use isolate_progress::IsoProgress;
 use pipe_core::{Offer, Tail};
 use prof_base::{MAX_INTERVAL, Memory};
-use record_text::{MAX_BUDGET, MAX_ENTRIES, MAX_RING, MIN_ENTRIES, Schedule};
+use run_schedule::{MAX_BUDGET, MAX_ENTRIES, MAX_RING, MIN_ENTRIES, Schedule};
 use std::alloc::Global;
 
 /// What an isolate is opened with.

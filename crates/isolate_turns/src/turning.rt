@@ -3,7 +3,7 @@ ghost use Rattle.std.specs.Prelude.{◌≡◌, ◌+◌, ◌-◌, ◌^◌, ◌<�
 ghost use Rattle.code_event.specs.declared.event.CodeEvent.{CodeEvent};
 ghost use Rattle.code_event.specs.declared.event.CodeEvent.TheVariants as event;
 ghost use Rattle.code_event.specs.declared.tick.Item.TheVariants as item;
-ghost use Rattle.record_text.specs.declared.schedule.EndCause.TheVariants as cause;
+ghost use Rattle.run_schedule.specs.declared.schedule.EndCause.TheVariants as cause;
 ghost use Rattle.isolate.specs.PlainFile.{leaves_files};
 ghost use Rattle.guest_machine.specs.Machine.{IsMachine};
 ghost use Rattle.isolate_guest.specs.Guest.{IsAt};
@@ -23,7 +23,7 @@ use code_event::{CodeEvent, EventRecord, Tick};
 use isolate_ends::{IsoPorts, IsoTurn};
 use pipe_core::{Offer, Tail};
 use plain_machine::Ended;
-use record_text::EndCause;
+use run_schedule::EndCause;
 
 // Returns whether the sessions that run when an isolate ends have their files.
 fn leaves_files(why: EndCause) -> bool

@@ -13,7 +13,7 @@ use code_event::{EventRecord, Tick};
 use guest_program::Program;
 use isolate_turns::{Ends, IsoTurn, Isolate};
 use pipe_core::PlainRing;
-use record_text::{EndCause, Schedule};
+use run_schedule::{EndCause, Schedule};
 use std::alloc::{AllocError, Global};
 
 /// The isolate of a case.

@@ -1,12 +1,12 @@
 // What the lines before a program say: the isolate's limits, and what its ports give.
 ghost use Rattle.std.specs.Prelude.{◌≡◌, ◌≤◌};
 ghost use Rattle.prof_base.specs.declared.interval.TheConstants.{MAX_INTERVAL};
-ghost use Rattle.record_text.specs.declared.limits.TheConstants.{MAX_BUDGET, MAX_ENTRIES, MAX_RING, MIN_ENTRIES};
+ghost use Rattle.run_schedule.specs.declared.limits.TheConstants.{MAX_BUDGET, MAX_ENTRIES, MAX_RING, MIN_ENTRIES};
 
 use code_event::{Command, Mode, Options};
 use isolate_turns::IsoConfig;
 use prof_base::{MAX_INTERVAL, SessionId};
-use record_text::{MAX_BUDGET, MAX_ENTRIES, MAX_RING, MIN_ENTRIES};
+use run_schedule::{MAX_BUDGET, MAX_ENTRIES, MAX_RING, MIN_ENTRIES};
 use std::alloc::{AllocError, Global};
 
 /// A command that a port gives from a step on.

@@ -4,7 +4,7 @@ use crate::running::{Outcome, cause_word};
 use crate::taken::Taken;
 use code_event::{CodeEvent, EventRecord, Mode, Options, PathPair, Tick, VmState};
 use code_map::CodeMap;
-use record_text::{ScheduleEntry, What};
+use run_schedule::{ScheduleEntry, What};
 use std::alloc::Global;
 use std::{io, str};
 use symbolizer::paths;

@@ -5,9 +5,10 @@ use Rattle.prof_lines.specs.declared.fault.LineFault.{LineFault}
 use Rattle.prof_lines.specs.declared.fault.LineFault.TheVariants as faults
 use Rattle.prof_lines.specs.Answers.{Fails, ◌>>=◌}
 use Rattle.prof_lines.specs.Words.{is_end, numbers_at, end_at}
-use Rattle.item_text.specs.declared.rule.Rule.{Rule}
+use Rattle.record_text.specs.declared.rule.Rule.{Rule}
 use Rattle.item_text.specs.ItemLine.{MAX_ADDRESS}
-use Rattle.item_text.specs.ItemForms.{Read, address_at}
+use Rattle.record_text.specs.Words.{Read}
+use Rattle.item_text.specs.ItemForms.{address_at}
 
 -- what was read before, and what is still read
 abbrev pub with_before : List ℕ → Read (List ℕ) → Read (List ℕ)

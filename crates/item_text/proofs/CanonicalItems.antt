@@ -17,7 +17,8 @@ use Rattle.item_text.specs.declared.items.ItemList.{ItemList}
 use Rattle.item_text.specs.ItemLine.{MAX_ADDRESS, parent_words, event_name, event_operands, item_name, item_operands, item_words, IsParent, IsEvent, IsItemLine}
 use Rattle.item_text.specs.ItemRules.{course_of, is_first, fault_after}
 use Rattle.item_text.specs.Items.{Fits, item_lines, items_text, Spells, IsItemList}
-use Rattle.item_text.proofs.ItemWords.{mode_is_word, state_is_word, hit_is_word, files_is_word, bound_is_word, only_is_word}
+use Rattle.record_text.proofs.RecordWords.{mode_is_word, bound_is_word}
+use Rattle.item_text.proofs.ItemWords.{state_is_word, hit_is_word, files_is_word, only_is_word}
 
 -- these words have no line ends
 abbrev AreOneLine : List (List ℕ) → Type 0

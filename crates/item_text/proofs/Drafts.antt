@@ -8,7 +8,7 @@ use Rattle.code_event.specs.declared.layout.Slot.{Slot}
 use Rattle.code_event.specs.declared.layout.Unit.{Unit as CodeUnit}
 use Rattle.code_event.specs.declared.event.CodeEvent.{CodeEvent}
 use Rattle.code_event.specs.declared.tick.Item.{Item}
-use Rattle.item_text.specs.declared.rule.Rule.{Rule}
+use Rattle.record_text.specs.declared.rule.Rule.{Rule}
 use Rattle.item_text.specs.declared.item_line.LineEvent.{LineEvent}
 use Rattle.item_text.specs.declared.item_line.TickLine.{TickLine}
 use Rattle.item_text.specs.declared.item_line.ItemLine.{ItemLine}

@@ -7,12 +7,13 @@ use Rattle.prof_lines.proofs.Places.{place_step, end_step}
 use Rattle.prof_lines.proofs.Ends.{end_again}
 use Rattle.prof_base.specs.Text.{IsText}
 use Rattle.code_event.specs.declared.event.Mode.{Mode}
-use Rattle.item_text.specs.declared.rule.Rule.{Rule}
+use Rattle.record_text.specs.declared.rule.Rule.{Rule}
 use Rattle.item_text.specs.declared.item_line.LineEvent.{LineEvent}
 use Rattle.item_text.specs.declared.item_line.LineEvent.TheVariants.{Move, NoOpt, Deopt, Delete, Start, Stop, Finish}
 use Rattle.item_text.specs.ItemLine.{event_name, event_operands, IsAddress, IsEvent}
 use Rattle.item_text.specs.ItemForms.{move_at, reason_at, no_opt_at, deopt_at, delete_at, start_at, stop_at, finish_at, event_of}
-use Rattle.item_text.proofs.ItemWords.{address_place, session_place, port_place, interval_place, time_place, text_place, mode_place, max_place, files_place}
+use Rattle.record_text.proofs.RecordWords.{session_place, port_place, interval_place, time_place, mode_place, max_place}
+use Rattle.item_text.proofs.ItemWords.{address_place, text_place, files_place}
 
 -- an event in its ranges, with its name and the words after it
 abbrev IsEventSpelled : LineEvent → List ℕ → List ℕ → Type 0

@@ -15,7 +15,7 @@ use Rattle.code_event.specs.declared.layout.Site.{Site}
 use Rattle.code_event.specs.declared.layout.Slot.{Slot}
 use Rattle.code_event.specs.declared.layout.Unit.{Unit as CodeUnit}
 use Rattle.code_event.specs.declared.tick.TheConstants.Frames.{MAX_LEN}
-use Rattle.item_text.specs.declared.rule.Rule.{Rule}
+use Rattle.record_text.specs.declared.rule.Rule.{Rule}
 use Rattle.item_text.specs.declared.item_line.LineEvent.{LineEvent}
 use Rattle.item_text.specs.declared.item_line.LineEvent.TheVariants.{Move, NoOpt, Deopt, Delete, Start, Stop, Finish}
 use Rattle.item_text.specs.declared.item_line.ItemLine.{ItemLine}
@@ -27,7 +27,8 @@ use Rattle.item_text.specs.ItemLine.{MAX_ADDRESS, parent_words, entry_words, eve
 use Rattle.item_text.specs.ItemForms.{head_at, create_at, entry_at, no_parent_at, site_at, parent_at, unit_at, slot_at, tick_at, event_of, item_of, item_at}
 use Rattle.item_text.specs.ItemRules.{course_of, is_first}
 use Rattle.item_text.specs.Items.{Fits, line_after}
-use Rattle.item_text.proofs.ItemWords.{address_place, line_place, index_place, func_place, script_place, interval_place, rounded_place, time_place, text_place, state_place, hit_place, only_place, frames_form}
+use Rattle.record_text.proofs.RecordWords.{interval_place, time_place}
+use Rattle.item_text.proofs.ItemWords.{address_place, line_place, index_place, func_place, script_place, rounded_place, text_place, state_place, hit_place, only_place, frames_form}
 use Rattle.item_text.proofs.EventForms.{event_takes, event_again, event_is_word}
 
 dash : IsWord (codes "-")

@@ -8,7 +8,7 @@ use Rattle.prof_lines.proofs.Folds.{text_fault}
 use Rattle.prof_lines.proofs.Steps.{ok_same, guard_ok}
 use Rattle.prof_lines.proofs.Values.{text_taken, text_again}
 use Rattle.code_event.specs.ItemList.{IsStamped}
-use Rattle.item_text.specs.declared.rule.Rule.{Rule}
+use Rattle.record_text.specs.declared.rule.Rule.{Rule}
 use Rattle.item_text.specs.declared.item_line.TextLine.{TextLine}
 use Rattle.item_text.specs.declared.items.ItemList.{ItemList}
 use Rattle.item_text.specs.ItemLine.{item_words}

@@ -1,8 +1,7 @@
 -- The words and numbers in lines of item lists: what is read is spelled so, and what is spelled so is read.
 use Rattle.std.proofs.Common.{◌≡◌, ℕ, ◌^◌, ◌-◌, ◌<◌, List, map, Bool, true, false, Ok, Option, Some, None, IfSome, refl, subst, arith, codes, decimal, inl, inr, lit<}
 use Rattle.prof_base.specs.Text.{IsText}
-use Rattle.prof_base.specs.declared.ids.TheConstants.Micros.{MAX}
-use Rattle.prof_base.specs.declared.interval.TheConstants.{MAX_INTERVAL, MAX_ROUNDED}
+use Rattle.prof_base.specs.declared.interval.TheConstants.{MAX_ROUNDED}
 use Rattle.prof_base.specs.declared.ids.SessionId.{SessionId}
 use Rattle.prof_lines.specs.Words.{InRange, of_word, number_of, number_at, numbers_at}
 use Rattle.prof_lines.specs.Quoted.{quoted_at}
@@ -13,46 +12,14 @@ use Rattle.prof_lines.proofs.Places.{naming_place}
 use Rattle.prof_lines.proofs.Numbers.{number_naming, number_place, decimal_word, decimal_is_no}
 use Rattle.prof_lines.proofs.QuotedForms.{quoted_place}
 use Rattle.prof_lines.proofs.EndForms.{numbers_form}
-use Rattle.code_event.specs.declared.event.Mode.{Mode}
-use Rattle.code_event.specs.declared.event.Mode.TheVariants.{Leaf, Caller}
 use Rattle.code_event.specs.declared.tick.VmState.{VmState}
 use Rattle.code_event.specs.declared.tick.VmState.TheVariants as state
 use Rattle.code_event.specs.declared.tick.TheConstants.Frames.{MAX_LEN}
-use Rattle.record_text.specs.declared.limits.TheConstants.{MAX_PORT}
-use Rattle.item_text.specs.declared.rule.Rule.{Rule}
-use Rattle.item_text.specs.ItemLine.{MAX_ADDRESS, MAX_LINE, MAX_INDEX, mode_word, state_word, hit_word, files_word, max_word, only_word, IsMax, IsOnly}
-use Rattle.item_text.specs.ItemForms.{mode_of, state_of, hit_of, files_of, bound_of, numbered, only_of}
-
-abbrev pub IsAny : {A : Type 0} → A → Type 0
-IsAny x = Unit {0}
-
--- a value and the word that spells it
-abbrev IsNamed : {A : Type 0} → (A → List ℕ) → A → List ℕ → Type 0
-IsNamed word value text = IsAny value × (word value ≡ text)
-
-mode_takes : (text : List ℕ) (value : Mode) → mode_of text ≡ Ok value → IsNamed mode_word value text
-mode_takes text value h = elim (chosen text (codes "leaf") (Ok Leaf) _ value h) [
-  | inl p ↦ subst (λ (m : Mode). IsNamed mode_word m text) (ok_same _ _ p.1) (tt, p.0)
-  | inr q ↦ elim (chosen text (codes "caller") (Ok Caller) _ value q) [
-    | inl p ↦ subst (λ (m : Mode). IsNamed mode_word m text) (ok_same _ _ p.1) (tt, p.0)
-    | inr r ↦ absurd cc
-  ]
-]
-
-mode_again : (value : Mode) → mode_of (mode_word value) ≡ Ok value
-mode_again Leaf = refl
-mode_again Caller = refl
-
-pub mode_is_word : (value : Mode) → IsWord (mode_word value)
-mode_is_word Leaf = record { some = lit< tt; plain = refl }
-mode_is_word Caller = record { some = lit< tt; plain = refl }
-
-pub mode_place : IsPlace (of_word mode_of) IsAny mode_word
-mode_place = naming_place mode_of IsAny mode_word (record {
-  takes = λ text value h. mode_takes text value h;
-  again = λ value fits. mode_again value;
-  plain = λ value fits. mode_is_word value;
-})
+use Rattle.record_text.specs.declared.rule.Rule.{Rule}
+use Rattle.record_text.specs.Words.{max_word, bound_of, IsBound}
+use Rattle.record_text.proofs.RecordWords.{IsAny, IsNamed, IsNumberPlace, bound_takes, bound_again}
+use Rattle.item_text.specs.ItemLine.{MAX_ADDRESS, MAX_LINE, MAX_INDEX, state_word, hit_word, files_word, only_word, IsOnly}
+use Rattle.item_text.specs.ItemForms.{state_of, hit_of, files_of, numbered, only_of}
 
 state_takes : (text : List ℕ) (value : VmState) → state_of text ≡ Ok value → IsNamed state_word value text
 state_takes text value h = elim (chosen text (codes "js") (Ok state.Js) _ value h) [
@@ -136,41 +103,6 @@ files_place = naming_place files_of IsAny files_word (record {
   plain = λ value fits. files_is_word value;
 })
 
--- a bound in its range, or none
-abbrev pub IsBound : ℕ → Option ℕ → Type 0
-IsBound least bound = IfSome bound (InRange least (2 ^ 32 - 1))
-
-wide : 2 ^ 32 - 1 < 2 ^ 64
-wide = lit< tt
-
-bound_number : (least : ℕ) (text : List ℕ) (value : Option ℕ) (n : ℕ) → number_of {C = Rule} least (2 ^ 32 - 1) text ≡ Ok n → Some n ≡ value → IsBound least value × (max_word value ≡ text)
-bound_number least text value n h e =
-    let t = (number_naming {C = Rule} least (2 ^ 32 - 1) wide).takes text n h in
-    subst (λ (m : Option ℕ). IsBound least m × (max_word m ≡ text)) e (t.0, t.1)
-
-bound_takes : (least : ℕ) (text : List ℕ) (value : Option ℕ) → bound_of least text ≡ Ok value → IsBound least value × (max_word value ≡ text)
-bound_takes least text value h = elim (chosen text (codes "all") (Ok None) _ value h) [
-  | inl p ↦ subst (λ (m : Option ℕ). IsBound least m × (max_word m ≡ text)) (ok_same _ _ p.1) (tt, p.0)
-  | inr q ↦ let b = bind_ok (number_of least (2 ^ 32 - 1) text) _ value q in bound_number least text value b.0 b.1 (ok_same _ _ b.2)
-]
-
-bound_again : (least : ℕ) (value : Option ℕ) → IsBound least value → bound_of least (max_word value) ≡ Ok value
-bound_again least None h = refl
-bound_again least (Some n) h =
-    let naming : IsNaming {C = Rule} (number_of least (2 ^ 32 - 1)) (InRange least (2 ^ 32 - 1)) decimal = number_naming least (2 ^ 32 - 1) wide in
-    rw (decimal_is_no n (codes "all") (omega (arith, h.1)) refl, naming.again n h) refl
-
-pub bound_is_word : (least : ℕ) (value : Option ℕ) → IsBound least value → IsWord (max_word value)
-bound_is_word least None h = record { some = lit< tt; plain = refl }
-bound_is_word least (Some n) h = decimal_word n (omega (arith, h.1))
-
-pub max_place : IsPlace (of_word (bound_of 0)) IsMax max_word
-max_place = naming_place (bound_of 0) IsMax max_word (record {
-  takes = λ text value h. bound_takes 0 text value h;
-  again = λ value fits. bound_again 0 value fits;
-  plain = λ value fits. bound_is_word 0 value fits;
-})
-
 only_by : (text : List ℕ) (number : Option ℕ) → IsBound 1 number → max_word number ≡ text → IsOnly (numbered number) × (only_word (numbered number) ≡ text)
 only_by text None h e = (tt, e)
 only_by text (Some n) h e = (h, e)
@@ -196,10 +128,6 @@ only_place = naming_place only_of IsOnly only_word (record {
   plain = λ value fits. only_is_word value fits;
 })
 
--- a place for a number in this range
-abbrev pub IsNumberPlace : ℕ → ℕ → Type 0
-IsNumberPlace least most = IsPlace {C = Rule} (number_at least most) (InRange least most) decimal
-
 pub address_place : IsNumberPlace 0 MAX_ADDRESS
 address_place = number_place 0 MAX_ADDRESS (lit< tt)
 
@@ -215,20 +143,8 @@ func_place = number_place 0 255 (lit< tt)
 pub script_place : IsNumberPlace 0 (2 ^ 32 - 1)
 script_place = number_place 0 (2 ^ 32 - 1) (lit< tt)
 
-pub session_place : IsNumberPlace 1 (2 ^ 32 - 1)
-session_place = number_place 1 (2 ^ 32 - 1) (lit< tt)
-
-pub port_place : IsNumberPlace 0 MAX_PORT
-port_place = number_place 0 MAX_PORT (lit< tt)
-
-pub interval_place : IsNumberPlace 1 MAX_INTERVAL
-interval_place = number_place 1 MAX_INTERVAL (lit< tt)
-
 pub rounded_place : IsNumberPlace 0 MAX_ROUNDED
 rounded_place = number_place 0 MAX_ROUNDED (lit< tt)
-
-pub time_place : IsNumberPlace 0 MAX
-time_place = number_place 0 MAX (lit< tt)
 
 pub text_place : IsPlace {C = Rule} quoted_at IsText quoted
 text_place = quoted_place

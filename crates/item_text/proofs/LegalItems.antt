@@ -15,7 +15,7 @@ use Rattle.code_event.specs.declared.layout.Slot.{Slot}
 use Rattle.code_event.specs.declared.layout.Unit.{Unit as CodeUnit}
 use Rattle.code_event.specs.declared.tick.Item.{Item}
 use Rattle.code_event.specs.declared.tick.Item.TheVariants as item
-use Rattle.item_text.specs.declared.rule.Rule.{Rule}
+use Rattle.record_text.specs.declared.rule.Rule.{Rule}
 use Rattle.item_text.specs.declared.item_line.LineEvent.TheVariants.{Start, Stop, Finish}
 use Rattle.item_text.specs.declared.item_line.ItemLine.{ItemLine}
 use Rattle.item_text.specs.declared.item_line.ItemLine.TheVariants as line

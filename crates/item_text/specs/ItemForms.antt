@@ -1,38 +1,23 @@
 -- How a line of an item list's text is read.
-use Rattle.std.specs.Prelude.{ℕ, ◌-◌, ◌^◌, List, Bool, true, false, Result, Ok, Err, if◌then◌else◌, bytes_eq, codes, Option, Some, None}
-use Rattle.prof_base.specs.declared.ids.TheConstants.Micros.{MAX}
+use Rattle.std.specs.Prelude.{ℕ, ◌-◌, ◌^◌, List, Bool, true, false, Ok, Err, if◌then◌else◌, bytes_eq, codes, Option, Some, None}
 use Rattle.prof_base.specs.declared.interval.TheConstants.{MAX_INTERVAL, MAX_ROUNDED}
 use Rattle.prof_base.specs.declared.ids.SessionId.{SessionId}
-use Rattle.prof_lines.specs.declared.fault.Cause.{Cause}
 use Rattle.prof_lines.specs.declared.fault.Cause.TheVariants.{Word}
 use Rattle.prof_lines.specs.Answers.{Front, ◌>>=◌}
-use Rattle.prof_lines.specs.Words.{of_word, word_at, fixed_at, number_of, number_at, numbers_at, end_at}
+use Rattle.prof_lines.specs.Words.{of_word, word_at, fixed_at, number_at, numbers_at, end_at}
 use Rattle.prof_lines.specs.Quoted.{quoted_at}
-use Rattle.code_event.specs.declared.event.Mode.{Mode}
-use Rattle.code_event.specs.declared.event.Mode.TheVariants.{Leaf, Caller}
 use Rattle.code_event.specs.declared.entry.Entry.{Entry}
 use Rattle.code_event.specs.declared.layout.Site.{Site}
 use Rattle.code_event.specs.declared.tick.VmState.{VmState}
 use Rattle.code_event.specs.declared.tick.VmState.TheVariants as state
 use Rattle.code_event.specs.declared.tick.TheConstants.Frames.{MAX_LEN}
-use Rattle.record_text.specs.declared.limits.TheConstants.{MAX_PORT}
-use Rattle.item_text.specs.declared.rule.Rule.{Rule}
+use Rattle.run_schedule.specs.declared.limits.TheConstants.{MAX_PORT}
+use Rattle.record_text.specs.Words.{Read, mode_of, bound_of, session_at, time_at}
 use Rattle.item_text.specs.declared.item_line.LineEvent.{LineEvent}
 use Rattle.item_text.specs.declared.item_line.LineEvent.TheVariants.{Move, NoOpt, Deopt, Delete, Start, Stop, Finish}
 use Rattle.item_text.specs.declared.item_line.ItemLine.{ItemLine}
 use Rattle.item_text.specs.declared.item_line.ItemLine.TheVariants as line
 use Rattle.item_text.specs.ItemLine.{MAX_ADDRESS, MAX_LINE, MAX_INDEX}
-
--- what is read of a line, or its first fault
-abbrev pub Read : Type 0 → Type 0
-Read A = Result A (Cause Rule)
-
--- `leaf` or `caller`
-abbrev pub mode_of : List ℕ → Read Mode
-mode_of word =
-    if bytes_eq word (codes "leaf") then Ok Leaf
-    else if bytes_eq word (codes "caller") then Ok Caller
-    else Err Word
 
 -- `js`, `idle`, `native` or `gc`
 abbrev pub state_of : List ℕ → Read VmState
@@ -56,10 +41,6 @@ hit_of word = flag_of (codes "hit") (codes "nohit") word
 abbrev pub files_of : List ℕ → Read Bool
 files_of word = flag_of (codes "files") (codes "none") word
 
--- `all`, or a number
-abbrev pub bound_of : ℕ → List ℕ → Read (Option ℕ)
-bound_of least word = if bytes_eq word (codes "all") then Ok None else (number_of least (2 ^ 32 - 1) word >>= λ n. Ok (Some n))
-
 -- a session by its number
 abbrev pub numbered : Option ℕ → Option SessionId
 numbered None = None
@@ -78,12 +59,6 @@ line_at bytes = number_at 0 MAX_LINE bytes
 
 abbrev pub index_at : List ℕ → Read (Front ℕ)
 index_at bytes = number_at 0 MAX_INDEX bytes
-
-abbrev pub session_at : List ℕ → Read (Front ℕ)
-session_at bytes = number_at 1 (2 ^ 32 - 1) bytes
-
-abbrev pub time_at : List ℕ → Read (Front ℕ)
-time_at bytes = number_at 0 MAX bytes
 
 -- the first line
 unfoldable pub head_at : List ℕ → Read ℕ

@@ -1,13 +1,10 @@
 -- The lines of an item list's text: the words of each, and the ranges of their numbers.
 use Rattle.std.specs.Prelude.{ℕ, ◌-◌, ◌^◌, List, [], ◌∷◌, map, Bool, true, false, Option, Some, None, IfSome, codes, decimal}
 use Rattle.prof_base.specs.Text.{IsText}
-use Rattle.prof_base.specs.declared.ids.TheConstants.Micros.{MAX}
 use Rattle.prof_base.specs.declared.interval.TheConstants.{MAX_INTERVAL, MAX_ROUNDED}
 use Rattle.prof_base.specs.declared.ids.SessionId.{SessionId}
 use Rattle.prof_lines.specs.Words.{InRange}
 use Rattle.prof_lines.specs.Spelled.{quoted, AreNumbers}
-use Rattle.code_event.specs.declared.event.Mode.{Mode}
-use Rattle.code_event.specs.declared.event.Mode.TheVariants.{Leaf, Caller}
 use Rattle.code_event.specs.declared.entry.Entry.{Entry}
 use Rattle.code_event.specs.declared.layout.Site.{Site}
 use Rattle.code_event.specs.declared.layout.Slot.{Slot}
@@ -15,7 +12,8 @@ use Rattle.code_event.specs.declared.layout.Unit.{Unit as CodeUnit}
 use Rattle.code_event.specs.declared.tick.VmState.{VmState}
 use Rattle.code_event.specs.declared.tick.VmState.TheVariants as state
 use Rattle.code_event.specs.declared.tick.TheConstants.Frames.{MAX_LEN}
-use Rattle.record_text.specs.declared.limits.TheConstants.{MAX_PORT}
+use Rattle.run_schedule.specs.declared.limits.TheConstants.{MAX_PORT}
+use Rattle.record_text.specs.Words.{mode_word, max_word, IsMax, IsTime}
 use Rattle.item_text.specs.declared.item_line.LineEvent.{LineEvent}
 use Rattle.item_text.specs.declared.item_line.LineEvent.TheVariants.{Move, NoOpt, Deopt, Delete, Start, Stop, Finish}
 use Rattle.item_text.specs.declared.item_line.TickLine.{TickLine}
@@ -36,10 +34,6 @@ MAX_LINE = 1000000
 abbrev pub MAX_INDEX : ℕ
 MAX_INDEX = 4095
 
-abbrev pub mode_word : Mode → List ℕ
-mode_word Leaf = codes "leaf"
-mode_word Caller = codes "caller"
-
 abbrev pub state_word : VmState → List ℕ
 state_word state.Js = codes "js"
 state_word state.Idle = codes "idle"
@@ -53,11 +47,6 @@ hit_word false = codes "nohit"
 abbrev pub files_word : Bool → List ℕ
 files_word true = codes "files"
 files_word false = codes "none"
-
--- the greatest number of samples that a session lists
-abbrev pub max_word : Option ℕ → List ℕ
-max_word None = codes "all"
-max_word (Some n) = decimal n
 
 -- the one session that a tick is for
 abbrev pub only_word : Option SessionId → List ℕ
@@ -120,12 +109,6 @@ IsAddress n = InRange 0 MAX_ADDRESS n
 
 abbrev pub IsSession : SessionId → Type 0
 IsSession session = InRange 1 (2 ^ 32 - 1) session.0
-
-abbrev pub IsTime : ℕ → Type 0
-IsTime n = InRange 0 MAX n
-
-abbrev pub IsMax : Option ℕ → Type 0
-IsMax max = IfSome max (InRange 0 (2 ^ 32 - 1))
 
 abbrev pub IsOnly : Option SessionId → Type 0
 IsOnly only = IfSome only IsSession

@@ -11,8 +11,8 @@ use Rattle.code_event.specs.declared.layout.TheConstants.{SLOT_SIZE}
 use Rattle.code_event.specs.declared.layout.TheConstants.Layout.{MAX_UNITS, MAX_SLOTS, MAX_ABOVE}
 use Rattle.code_event.specs.ItemList.{ListSoFar, without}
 use Rattle.code_event.specs.Layout.{sites_above}
-use Rattle.item_text.specs.declared.rule.Rule.{Rule}
-use Rattle.item_text.specs.declared.rule.Rule.TheVariants as rule
+use Rattle.record_text.specs.declared.rule.Rule.{Rule}
+use Rattle.record_text.specs.declared.rule.Rule.TheVariants as rule
 use Rattle.item_text.specs.declared.item_line.LineEvent.{LineEvent}
 use Rattle.item_text.specs.declared.item_line.LineEvent.TheVariants.{Move, NoOpt, Deopt, Delete, Start, Stop, Finish}
 use Rattle.item_text.specs.declared.item_line.ItemLine.{ItemLine}

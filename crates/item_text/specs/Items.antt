@@ -15,12 +15,12 @@ use Rattle.code_event.specs.declared.event.CodeEvent.TheVariants as event
 use Rattle.code_event.specs.declared.tick.Item.{Item}
 use Rattle.code_event.specs.declared.tick.Item.TheVariants as item
 use Rattle.code_event.specs.declared.tick.Tick.{Tick}
-use Rattle.item_text.specs.declared.rule.Rule.{Rule}
-use Rattle.item_text.specs.declared.rule.Rule.TheVariants as rule
+use Rattle.record_text.specs.declared.rule.Rule.{Rule}
+use Rattle.record_text.specs.declared.rule.Rule.TheVariants as rule
 use Rattle.record_text.specs.declared.refused.LineCause.{LineCause}
-use Rattle.record_text.specs.declared.refused.LineCause.TheVariants as public
 use Rattle.record_text.specs.declared.refused.ReadRefused.{ReadRefused}
 use Rattle.record_text.specs.declared.refused.ReadRefused.TheVariants as refused
+use Rattle.record_text.specs.Refusals.{line_cause}
 use Rattle.item_text.specs.declared.item_line.LineEvent.TheVariants.{Move, NoOpt, Deopt, Delete, Start, Stop, Finish}
 use Rattle.item_text.specs.declared.item_line.ItemLine.{ItemLine}
 use Rattle.item_text.specs.declared.item_line.ItemLine.TheVariants as line
@@ -115,13 +115,6 @@ Spells text list = EachIsSpelled item_words (item_lines list) (counted text)
 abbrev pub items_text : ItemList → List ℕ
 items_text list = text_of item_words (item_lines list)
 
-abbrev pub line_cause : Cause Rule → LineCause
-line_cause causes.Word = public.Word
-line_cause causes.Number = public.Number
-line_cause (causes.Own rule.Order) = public.Order
-line_cause (causes.Own rule.Session) = public.Session
-line_cause (causes.Own rule.Limit) = public.Limit
-
 -- the first fault of a text is at this line, and has this cause
 abbrev pub IsRefusedAt : List ℕ → ℕ → LineCause → Type 0
 IsRefusedAt text number cause = (own : Cause Rule) × IsTextFault items_next items_end [] text (number, own) × (cause ≡ line_cause own)
@@ -130,8 +123,3 @@ IsRefusedAt text number cause = (own : Cause Rule) × IsTextFault items_next ite
 abbrev pub IsRefused : List ℕ → ReadRefused → Type 0
 IsRefused text (refused.At number cause) = IsRefusedAt text number cause
 IsRefused text refused.Memory = Unit {0}
-
--- only out of memory
-abbrev pub IsMemory : ReadRefused → Type 0
-IsMemory (refused.At number cause) = ⊥
-IsMemory refused.Memory = Unit {0}

@@ -17,10 +17,10 @@ use crate::item_form::item;
 use crate::item_line::{ItemLine, LineEvent, TickLine};
 use crate::items::ItemList;
 use crate::progress::Progress;
-use crate::rule::Rule;
 use code_event::{Slot, Unit};
 use prof_base::Memory;
 use prof_lines::{Cause, LineFault};
+use record_text::Rule;
 use std::alloc::Global;
 use std::marker::Model;
 

@@ -1,32 +1,19 @@
 // The forms of the lines of an item list's text.
 ghost use Rattle.std.specs.Prelude.{◌≡◌, ◌-◌, ◌^◌, ◌≤◌, IfOk};
-ghost use Rattle.prof_base.specs.declared.interval.TheConstants.{MAX_INTERVAL};
 ghost use Rattle.prof_lines.specs.Answers.{Gives};
 ghost use Rattle.prof_lines.specs.Words.{number_at, numbers_at};
 ghost use Rattle.code_event.specs.declared.tick.TheConstants.Frames.{MAX_LEN};
 ghost use Rattle.item_text.specs.ItemLine.{MAX_ADDRESS, IsItemLine};
-ghost use Rattle.item_text.specs.ItemForms.{mode_of, state_of, flag_of, bound_of, numbered, only_of, address_at, line_at, index_at, session_at, time_at};
+ghost use Rattle.item_text.specs.ItemForms.{state_of, flag_of, numbered, only_of, address_at, line_at, index_at};
 ghost use Rattle.item_text.specs.ItemForms.{head_at, create_at, entry_at, no_parent_at, site_at, parent_at, unit_at, slot_at, move_at, reason_at, no_opt_at, deopt_at, delete_at, start_at, stop_at, finish_at, event_of, tick_at, item_of, item_at};
 
 use crate::item_line::{ItemLine, LineEvent, TickLine};
-use crate::rule::Rule;
-use code_event::{Entry, Frames, Mode, Site, Slot, Unit, VmState};
+use code_event::{Entry, Frames, Site, Slot, Unit, VmState};
 use prof_base::{FuncId, MAX_INTERVAL, MAX_ROUNDED, Micros, SessionId, Text};
 use prof_lines::{Cause, LineFault, end, fixed, is_end, number, number_of, quoted, word};
-use record_text::MAX_PORT;
+use record_text::{Rule, bound_of, mode_of, session, time};
+use run_schedule::MAX_PORT;
 use std::alloc::Global;
-
-fn mode_of(word: &[u8]) -> Result<Mode, LineFault<Rule>>
-    ensures { Gives (λ mode. mode) result (mode_of word.now) }
-{
-    if word == b"leaf".as_slice() {
-        Ok(Mode::Leaf)
-    } else if word == b"caller".as_slice() {
-        Ok(Mode::Caller)
-    } else {
-        Err(LineFault::At(Cause::Word))
-    }
-}
 
 fn state_of(word: &[u8]) -> Result<VmState, LineFault<Rule>>
     ensures { Gives (λ state. state) result (state_of word.now) }
@@ -54,16 +41,6 @@ fn flag_of(on: &[u8], off: &[u8], word: &[u8]) -> Result<bool, LineFault<Rule>>
     } else {
         Err(LineFault::At(Cause::Word))
     }
-}
-
-fn bound_of(word: &[u8], least: u64) -> Result<Option<u32>, LineFault<Rule>>
-    ensures { Gives (λ bound. bound) result (bound_of least word.now) }
-{
-    if word == b"all".as_slice() {
-        return Ok(None);
-    }
-    let most = number_of(word, least, 4_294_967_295)?;
-    Ok(Some(most as u32))
 }
 
 fn only_of(word: &[u8]) -> Result<Option<SessionId>, LineFault<Rule>>
@@ -96,21 +73,6 @@ fn index(bytes: &[u8]) -> Result<(u16, &[u8]), LineFault<Rule>>
 {
     let (index, rest) = number(bytes, 0, 4_095)?;
     Ok((index as u16, rest))
-}
-
-fn session(bytes: &[u8]) -> Result<(u32, &[u8]), LineFault<Rule>>
-    ensures { Gives (λ x. (x.0, x.1.now)) result (session_at bytes.now) }
-{
-    let (session, rest) = number(bytes, 1, 4_294_967_295)?;
-    Ok((session as u32, rest))
-}
-
-fn time(bytes: &[u8]) -> Result<(u64, &[u8]), LineFault<Rule>>
-    ensures time { Gives (λ x. (x.0, x.1.now)) result (time_at bytes.now) }
-    ensures bound { IfOk result (λ x. x.0 ≤ Micros.MAX) }
-{
-    let (time, rest) = number(bytes, 0, Micros::MAX)?;
-    Ok((time, rest))
 }
 
 /// The base that the first line gives.

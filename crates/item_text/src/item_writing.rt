@@ -7,24 +7,17 @@ ghost use Rattle.code_event.specs.declared.event.CodeEvent.TheVariants as event;
 ghost use Rattle.item_text.specs.declared.item_line.LineEvent.TheVariants.{Move, NoOpt, Deopt, Delete, Start, Stop, Finish};
 ghost use Rattle.item_text.specs.declared.item_line.ItemLine.TheVariants as line;
 ghost use Rattle.item_text.specs.declared.item_line.TextLine.TheVariants.{Head};
-ghost use Rattle.item_text.specs.ItemLine.{mode_word, state_word, hit_word, files_word, max_word, only_word, parent_words, entry_words, item_words};
+ghost use Rattle.record_text.specs.Words.{mode_word, max_word};
+ghost use Rattle.item_text.specs.ItemLine.{state_word, hit_word, files_word, only_word, parent_words, entry_words, item_words};
 ghost use Rattle.item_text.specs.Items.{tick_line, items_text, Spells, IsItemList};
 ghost use Rattle.item_text.specs.ItemSpelling.{line_text, units_text, slots_text, numbers_text, event_text, item_text, body_text};
 
 use crate::items::ItemList;
-use code_event::{CodeEvent, Entry, Item, Layout, Mode, Options, Site, Slot, Tick, Unit, VmState};
-use prof_base::{Memory, Micros, SessionId, Text, put_decimal};
+use code_event::{CodeEvent, Entry, Item, Layout, Options, Site, Slot, Tick, Unit, VmState};
+use prof_base::{Memory, Micros, SessionId, Text};
 use prof_lines::put_quoted;
+use record_text::{mode_word, put_max, put_number, put_word};
 use std::alloc::Global;
-
-fn mode_word(mode: Mode) -> &'static [u8]
-    ensures { result.now ≡ mode_word mode }
-{
-    match mode {
-        Mode::Leaf => b"leaf",
-        Mode::Caller => b"caller",
-    }
-}
 
 fn state_word(state: VmState) -> &'static [u8]
     ensures { result.now ≡ state_word state }
@@ -49,37 +42,11 @@ fn files_word(files: bool) -> &'static [u8]
     if files { b"files" } else { b"none" }
 }
 
-// Adds a space and the word.
-fn put_word(out: &mut Vec<u8>, word: &[u8]) -> Result<(), Memory>
-    ensures { OnOk result (out.new.items ≡ out.old.items ++ 32 ∷ word.now) }
-{
-    out.push(b' ')?;
-    out.extend_from_slice(word)?;
-    Ok(())
-}
-
-fn put_number(out: &mut Vec<u8>, number: u64) -> Result<(), Memory>
-    ensures { OnOk result (out.new.items ≡ out.old.items ++ 32 ∷ decimal number) }
-{
-    out.push(b' ')?;
-    put_decimal(out, number)?;
-    Ok(())
-}
-
 fn put_text(out: &mut Vec<u8>, text: &Text) -> Result<(), Memory>
     ensures { OnOk result (out.new.items ≡ out.old.items ++ 32 ∷ quoted text.now) }
 {
     out.push(b' ')?;
     put_quoted(out, text)
-}
-
-fn put_max(out: &mut Vec<u8>, max: Option<u32>) -> Result<(), Memory>
-    ensures { OnOk result (out.new.items ≡ out.old.items ++ 32 ∷ max_word max) }
-{
-    match max {
-        None => put_word(out, b"all"),
-        Some(most) => put_number(out, u64::from(most)),
-    }
 }
 
 fn put_only(out: &mut Vec<u8>, only: Option<SessionId>) -> Result<(), Memory>

@@ -4,15 +4,15 @@ ghost use Rattle.prof_lines.specs.Answers.{Reads};
 ghost use Rattle.code_event.specs.ItemList.{IsStamped};
 ghost use Rattle.item_text.specs.declared.items.ItemList.{ItemList};
 ghost use Rattle.item_text.specs.ItemRules.{may_end, course_of};
-ghost use Rattle.item_text.specs.Items.{item_lines, rest_of, lines_read, line_cause, IsItemList, Spells, IsRefused, IsMemory};
+ghost use Rattle.record_text.specs.Refusals.{IsMemory};
+ghost use Rattle.item_text.specs.Items.{item_lines, rest_of, lines_read, IsItemList, Spells, IsRefused};
 
 use crate::draft::Draft;
 use crate::item_form::head;
-use crate::rule::Rule;
 use code_event::Item;
 use prof_base::Sequence;
 use prof_lines::{Cause, LineFault, Lines, TextFault};
-use record_text::{LineCause, ReadRefused};
+use record_text::{ReadRefused, Rule, line_cause};
 use std::alloc::Global;
 
 /// What an isolate raised, in order, with its base interval: the events, and the ticks that were not
@@ -71,18 +71,6 @@ fn read(alloc: Global, text: &[u8]) -> Result<ItemList, TextFault<Rule>>
             Err(fault) => Err(fault),
         },
         Err(fault) => Err(fault.at(number)),
-    }
-}
-
-fn line_cause(cause: Cause<Rule>) -> LineCause
-    ensures { result ≡ line_cause cause }
-{
-    match cause {
-        Cause::Word => LineCause::Word,
-        Cause::Number => LineCause::Number,
-        Cause::Own(Rule::Order) => LineCause::Order,
-        Cause::Own(Rule::Session) => LineCause::Session,
-        Cause::Own(Rule::Limit) => LineCause::Limit,
     }
 }
 

@@ -10,7 +10,6 @@ mod item_writing;
 mod items;
 pub mod laws;
 mod progress;
-mod rule;
 
 pub use item_writing::write_items;
 pub use items::{ItemList, read_items};

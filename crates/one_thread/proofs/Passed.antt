@@ -9,7 +9,7 @@ use Rattle.code_event.specs.declared.tick.Tick.{Tick}
 use Rattle.out_stream.specs.Parts.{Parts}
 use Rattle.pipe_core.specs.CoreOrder.{IsJoined}
 use Rattle.pipe_core.specs.Stamps.{events_of, ticks_of}
-use Rattle.record_text.specs.declared.schedule.EndCause.{EndCause}
+use Rattle.run_schedule.specs.declared.schedule.EndCause.{EndCause}
 use Rattle.isolate_acts.specs.Progress.{Moment, Progress}
 use Rattle.isolate_acts.specs.Stands.{StandsAt}
 use Rattle.isolate_ends.specs.Queues.{GotMore, with_all}

@@ -9,8 +9,8 @@ use Rattle.code_event.specs.declared.tick.Tick.{Tick}
 use Rattle.out_stream.specs.Parts.{Parts}
 use Rattle.pipe_core.specs.Plain.{QueueValue, RingValue}
 use Rattle.pipe_core.specs.Stamps.{ticks_of}
-use Rattle.record_text.specs.ScheduleParts.{ScheduleParts}
-use Rattle.record_text.specs.declared.schedule.EndCause.{EndCause}
+use Rattle.run_schedule.specs.ScheduleParts.{ScheduleParts}
+use Rattle.run_schedule.specs.declared.schedule.EndCause.{EndCause}
 use Rattle.isolate_acts.specs.Acts.{Act, calls_on, moment_on, progress_on, raised_on}
 use Rattle.isolate_acts.specs.Calls.{Call, with_calls}
 use Rattle.isolate_acts.specs.Phases.{Phase, LeadTo, IsOver, first_phase}

@@ -4,7 +4,7 @@ use guest_text::read_program;
 use isolate_turns::IsoConfig;
 use out_stream::SureStream;
 use prof_base::MAX_INTERVAL;
-use record_text::{DEFAULT_RING, EndCause};
+use run_schedule::{DEFAULT_RING, EndCause};
 use std::alloc::Global;
 use std::test::Fail;
 

@@ -1,6 +1,6 @@
 // Schedules at both ends of each range.
 use prof_base::{MAX_INTERVAL, Micros};
-use record_text::{
+use run_schedule::{
     EndCause, MAX_BUDGET, MAX_ENTRIES, MAX_RING, MIN_ENTRIES, Schedule, ScheduleEntry, What,
 };
 use std::test::Fail;

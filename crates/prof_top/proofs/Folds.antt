@@ -9,7 +9,7 @@ use Rattle.item_fold.specs.declared.delivery.FileNote.{FileNote}
 use Rattle.out_stream.specs.declared.stream.Undelivered.{Undelivered}
 use Rattle.out_stream.specs.declared.stream.Undelivered.TheVariants as cut
 use Rattle.out_stream.specs.Parts.{Parts}
-use Rattle.record_text.specs.ScheduleParts.{ScheduleParts}
+use Rattle.run_schedule.specs.ScheduleParts.{ScheduleParts}
 use Rattle.item_text.specs.declared.items.ItemList.{ItemList}
 use Rattle.prof_top.specs.HandedOut.{Outlets, IsHandedOut, IsEndedSo, IsDelivered}
 use Rattle.prof_top.specs.Outcome.{IsDone}

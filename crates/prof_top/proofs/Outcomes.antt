@@ -4,8 +4,8 @@ use Rattle.std.specs.Prelude.{Option}
 use Rattle.std.specs.List.{AllByRecursion}
 use Rattle.guest_program.specs.declared.instr.Func.{Func}
 use Rattle.prof_outer.specs.Files.{FileMap}
-use Rattle.record_text.specs.Schedule.{IsLegalSchedule}
-use Rattle.record_text.specs.ScheduleParts.{ScheduleParts}
+use Rattle.run_schedule.specs.Schedule.{IsLegalSchedule}
+use Rattle.run_schedule.specs.ScheduleParts.{ScheduleParts}
 use Rattle.prof_top.proofs.Endings.{IsDueOrMemory, due_or_memory}
 use Rattle.prof_top.proofs.Handed.{handed_at_last}
 use Rattle.prof_top.specs.Command.{AsksToRun}

@@ -10,11 +10,11 @@ use Rattle.processor.specs.Filing.{answer_of}
 use Rattle.processor.specs.declared.turn.Delivery.{Delivery}
 use Rattle.processor.specs.declared.turn.Delivery.TheVariants as delivery
 use Rattle.raised_so_far.specs.Raised.{EndsFor}
-use Rattle.record_text.specs.ScheduleParts.{ScheduleParts}
-use Rattle.record_text.specs.declared.schedule.EndCause.{EndCause}
-use Rattle.record_text.specs.declared.schedule.EndCause.TheVariants as end
-use Rattle.record_text.specs.declared.schedule.ScheduleEntry.{ScheduleEntry}
-use Rattle.record_text.specs.declared.schedule.What.TheVariants.{End}
+use Rattle.run_schedule.specs.ScheduleParts.{ScheduleParts}
+use Rattle.run_schedule.specs.declared.schedule.EndCause.{EndCause}
+use Rattle.run_schedule.specs.declared.schedule.EndCause.TheVariants as end
+use Rattle.run_schedule.specs.declared.schedule.ScheduleEntry.{ScheduleEntry}
+use Rattle.run_schedule.specs.declared.schedule.What.TheVariants.{End}
 use Rattle.one_thread.specs.UnderWay.{Outlet, PlainIsolate, PlainProcessor}
 use Rattle.clock_run.specs.Run.{HasEnded}
 use Rattle.prof_top.specs.Ending.{due_for, due_of, IsDue}

@@ -6,11 +6,11 @@ use Rattle.prof_outer.specs.declared.sink.SinkFault.{SinkFault}
 use Rattle.prof_outer.specs.declared.sink.SinkFault.TheVariants as sink
 use Rattle.record_text.specs.declared.refused.LineCause.{LineCause}
 use Rattle.record_text.specs.declared.refused.LineCause.TheVariants as fault
-use Rattle.record_text.specs.declared.schedule.EndCause.{EndCause}
-use Rattle.record_text.specs.declared.schedule.EndCause.TheVariants as end
-use Rattle.record_text.specs.declared.schedule.What.{What}
-use Rattle.record_text.specs.declared.schedule.What.TheVariants.{End}
-use Rattle.record_text.specs.declared.schedule.ScheduleEntry.{ScheduleEntry}
+use Rattle.run_schedule.specs.declared.schedule.EndCause.{EndCause}
+use Rattle.run_schedule.specs.declared.schedule.EndCause.TheVariants as end
+use Rattle.run_schedule.specs.declared.schedule.What.{What}
+use Rattle.run_schedule.specs.declared.schedule.What.TheVariants.{End}
+use Rattle.run_schedule.specs.declared.schedule.ScheduleEntry.{ScheduleEntry}
 use Rattle.out_stream.specs.declared.stream.Undelivered.{Undelivered}
 use Rattle.out_stream.specs.declared.stream.Undelivered.TheVariants as cut
 use Rattle.prof_top.specs.declared.load.Unread.{Unread}

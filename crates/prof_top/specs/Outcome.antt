@@ -1,7 +1,7 @@
 -- How a call turned out: what was asked for was done, and what came of it is handed out; or nothing was done, and nothing came out; or memory ran out in a run.
 use Rattle.std.specs.Prelude.{◌≡◌, ◌⊎◌, ℕ, List, [], Option, IfSome}
 use Rattle.prof_outer.specs.Files.{FileMap}
-use Rattle.record_text.specs.ScheduleParts.{ScheduleParts}
+use Rattle.run_schedule.specs.ScheduleParts.{ScheduleParts}
 use Rattle.prof_top.specs.Command.{AsksToRun}
 use Rattle.prof_top.specs.HandedOut.{Outlets, IsHandedOut, IsEndedSo}
 use Rattle.prof_top.specs.Product.{Product, Makes}

@@ -6,13 +6,13 @@ use Rattle.item_fold.specs.declared.delivery.FileNote.{FileNote}
 use Rattle.code_event.specs.ItemFile.{SessionFile}
 use Rattle.code_event.specs.declared.tick.Item.{Item}
 use Rattle.code_event.specs.declared.tick.Item.TheVariants as item
-use Rattle.record_text.specs.Schedule.{is_sampled}
-use Rattle.record_text.specs.ScheduleParts.{ScheduleParts}
-use Rattle.record_text.specs.declared.schedule.EndCause.{EndCause}
-use Rattle.record_text.specs.declared.schedule.EndCause.TheVariants as cause
-use Rattle.record_text.specs.declared.schedule.What.{What}
-use Rattle.record_text.specs.declared.schedule.What.TheVariants.{Dropped, End}
-use Rattle.record_text.specs.declared.schedule.ScheduleEntry.{ScheduleEntry}
+use Rattle.run_schedule.specs.Schedule.{is_sampled}
+use Rattle.run_schedule.specs.ScheduleParts.{ScheduleParts}
+use Rattle.run_schedule.specs.declared.schedule.EndCause.{EndCause}
+use Rattle.run_schedule.specs.declared.schedule.EndCause.TheVariants as cause
+use Rattle.run_schedule.specs.declared.schedule.What.{What}
+use Rattle.run_schedule.specs.declared.schedule.What.TheVariants.{Dropped, End}
+use Rattle.run_schedule.specs.declared.schedule.ScheduleEntry.{ScheduleEntry}
 use Rattle.step_clock.specs.StepClock.{last_step}
 
 -- the word that names why a run ended

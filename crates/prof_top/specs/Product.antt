@@ -4,7 +4,7 @@ use Rattle.code_event.specs.ItemFile.{SessionFile, item_files}
 use Rattle.guest_program.specs.declared.instr.Func.{Func}
 use Rattle.isolate.specs.PlainFile.{plain_files}
 use Rattle.item_text.specs.declared.items.ItemList.{ItemList}
-use Rattle.record_text.specs.ScheduleParts.{ScheduleParts}
+use Rattle.run_schedule.specs.ScheduleParts.{ScheduleParts}
 use Rattle.prof_top.specs.Ending.{due_of}
 use Rattle.prof_top.specs.PrintedText.{printed_text, fold_text}
 use Rattle.prof_top.specs.RunSchedule.{IsRunSchedule}

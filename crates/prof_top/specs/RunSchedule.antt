@@ -2,9 +2,9 @@
 use Rattle.std.specs.Prelude.{◌≡◌, ℕ, List}
 use Rattle.guest_program.specs.declared.instr.Func.{Func}
 use Rattle.isolate.specs.Fits.{Fits}
-use Rattle.record_text.specs.Schedule.{IsLegalSchedule}
-use Rattle.record_text.specs.ScheduleParts.{ScheduleParts}
-use Rattle.record_text.specs.declared.limits.TheConstants.{DEFAULT_RING}
+use Rattle.run_schedule.specs.Schedule.{IsLegalSchedule}
+use Rattle.run_schedule.specs.ScheduleParts.{ScheduleParts}
+use Rattle.run_schedule.specs.declared.limits.TheConstants.{DEFAULT_RING}
 use Rattle.isolate_turns.specs.declared.state.IsoConfig.{IsoConfig}
 use Rattle.step_clock.specs.StepClock.{IsStepClock}
 use Rattle.prof_top.specs.declared.run.TheConstants.{BUDGET, ENTRIES}

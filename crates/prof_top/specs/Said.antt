@@ -1,7 +1,7 @@
 -- What a call says of its end on `err`.
 use Rattle.std.specs.Prelude.{◌≡◌, ℕ, List, Option}
 use Rattle.prof_outer.specs.Files.{FileMap}
-use Rattle.record_text.specs.ScheduleParts.{ScheduleParts}
+use Rattle.run_schedule.specs.ScheduleParts.{ScheduleParts}
 use Rattle.prof_top.specs.Asked.{AsksFor, AsksForKind, HoldsFault, HoldsProgramFault, guest_program, item_list}
 use Rattle.prof_top.specs.Ending.{status_of, line_of, due_of}
 use Rattle.prof_top.specs.RunSchedule.{IsRunSchedule}

@@ -3,7 +3,7 @@ ghost use Rattle.std.specs.Prelude.{◌≡◌, ◌⊎◌, ◌≤◌, [], length,
 ghost use Rattle.std.specs.List.{AllByRecursion};
 ghost use Rattle.isolate.specs.Fits.{Fits};
 ghost use Rattle.prof_base.specs.Causes.{Rose};
-ghost use Rattle.record_text.specs.Schedule.{IsLegalSchedule};
+ghost use Rattle.run_schedule.specs.Schedule.{IsLegalSchedule};
 ghost use Rattle.prof_top.specs.Asked.{Kind, AsksFor, AsksForKind, LacksFile, HoldsUnreadable, MayReadAll};
 ghost use Rattle.prof_top.specs.Causes.{IsEndedAs, outside};
 ghost use Rattle.prof_top.specs.Command.{IsCommand, AsksToRun};
@@ -24,7 +24,7 @@ use crate::run::{BUDGET, ENTRIES, Ran, run};
 use out_stream::OutputStream;
 use prof_base::Sequence;
 use prof_outer::{Depot, Sink};
-use record_text::Schedule;
+use run_schedule::Schedule;
 use std::alloc::Global;
 
 /// What a call returns.

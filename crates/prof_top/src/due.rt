@@ -3,7 +3,7 @@ ghost use Rattle.std.specs.Prelude.{◌≡◌};
 ghost use Rattle.prof_top.specs.Ending.{due_for, due_at, due_of};
 
 use crate::ending::{Ending, Trap};
-use record_text::{EndCause, ScheduleEntry, What};
+use run_schedule::{EndCause, ScheduleEntry, What};
 
 fn due_for(step: u64, cause: EndCause) -> Ending
     ensures { result ≡ due_for step cause }

@@ -1,11 +1,11 @@
 // The lines that are printed.
 ghost use Rattle.std.specs.Prelude.{◌≡◌, ◌≤◌, ◌++◌, length, flat_map, count_by, IfOk, OnOk, string_bytes};
-ghost use Rattle.record_text.specs.Schedule.{is_sampled};
+ghost use Rattle.run_schedule.specs.Schedule.{is_sampled};
 ghost use Rattle.prof_top.specs.PrintedText.{end_word, end_line, is_dropped, counts_line, samples_line, schedule_lines, is_tick, kinds_line, items_line, note_line};
 
 use code_event::Item;
 use item_fold::FileNote;
-use record_text::{EndCause, Schedule, ScheduleEntry, What};
+use run_schedule::{EndCause, Schedule, ScheduleEntry, What};
 use std::alloc::{AllocError, Global};
 
 fn end_word(cause: EndCause) -> &'static str

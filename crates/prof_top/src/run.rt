@@ -25,7 +25,7 @@ use one_thread::OneThread;
 use out_stream::{OutputStream, Undelivered};
 use prof_base::{MAX_INTERVAL, Sequence};
 use prof_outer::Sink;
-use record_text::{DEFAULT_RING, EndCause, Schedule};
+use run_schedule::{DEFAULT_RING, EndCause, Schedule};
 use std::alloc::Global;
 
 /// The greatest number of steps of a run.

@@ -13,7 +13,7 @@ use out_stream::OutputStream;
 use prof_base::Text;
 use prof_outer::{MemoryDepot, MemorySink, Stored};
 use prof_top::{Outcome, cpuprof_once};
-use record_text::{EndCause, Schedule, ScheduleEntry, What};
+use run_schedule::{EndCause, Schedule, ScheduleEntry, What};
 use std::alloc::Global;
 use std::{fs, str};
 

@@ -5,8 +5,8 @@ use Rattle.std.specs.Prelude.{false, None, if◌then◌else◌}
 use Rattle.guest_program.specs.declared.instr.Func.{Func}
 use Rattle.code_event.specs.Seen.{Seen}
 use Rattle.plain_machine.specs.PlainMachine.{deopts}
-use Rattle.record_text.specs.Schedule.{Running, none_yet, course_on, running_after}
-use Rattle.record_text.specs.declared.schedule.ScheduleEntry.{ScheduleEntry}
+use Rattle.run_schedule.specs.Schedule.{Running, none_yet, course_on, running_after}
+use Rattle.run_schedule.specs.declared.schedule.ScheduleEntry.{ScheduleEntry}
 use Rattle.isolate.proofs.EntriesMore.{seen_behind-push}
 use Rattle.isolate.specs.PlainFile.{tick_at, given_up, given_up_for, seen_of, seen_on}
 use Rattle.isolate.specs.RunLaws.{step_behind, time_behind, last_step, last_time, given_up_until}

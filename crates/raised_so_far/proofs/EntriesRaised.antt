@@ -19,10 +19,10 @@ use Rattle.code_event.specs.declared.tick.Item.{Item}
 use Rattle.code_event.specs.declared.tick.Item.TheVariants as item
 use Rattle.plain_machine.specs.PlainMachine.{plain}
 use Rattle.plain_machine.specs.PlainFrames.{plain_frames, reasons_of}
-use Rattle.record_text.specs.Schedule.{Course, none_yet, course_after, course_on, running_after}
-use Rattle.record_text.specs.Source.{source_for}
-use Rattle.record_text.specs.declared.schedule.ScheduleEntry.{ScheduleEntry}
-use Rattle.record_text.specs.declared.schedule.What.{What}
+use Rattle.run_schedule.specs.Schedule.{Course, none_yet, course_after, course_on, running_after}
+use Rattle.run_schedule.specs.Source.{source_for}
+use Rattle.run_schedule.specs.declared.schedule.ScheduleEntry.{ScheduleEntry}
+use Rattle.run_schedule.specs.declared.schedule.What.{What}
 use Rattle.isolate.proofs.EntriesMore.{course_on-push}
 use Rattle.isolate.specs.PlainFile.{seen_of}
 use Rattle.isolate.specs.RunLaws.{last_step, last_time}

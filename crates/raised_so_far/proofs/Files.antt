@@ -17,12 +17,12 @@ use Rattle.code_event.specs.declared.event.CodeEvent.TheVariants.{Finish}
 use Rattle.code_event.specs.declared.event.EventRecord.{EventRecord}
 use Rattle.code_event.specs.declared.tick.Item.{Item}
 use Rattle.code_event.specs.declared.tick.Item.TheVariants as item
-use Rattle.record_text.specs.Schedule.{Course, none_yet, course_after, course_on}
-use Rattle.record_text.specs.ScheduleParts.{ScheduleParts}
-use Rattle.record_text.specs.declared.schedule.EndCause.TheVariants as cause
-use Rattle.record_text.specs.declared.schedule.ScheduleEntry.{ScheduleEntry}
-use Rattle.record_text.specs.declared.schedule.What.{What}
-use Rattle.record_text.specs.declared.schedule.What.TheVariants as what
+use Rattle.run_schedule.specs.Schedule.{Course, none_yet, course_after, course_on}
+use Rattle.run_schedule.specs.ScheduleParts.{ScheduleParts}
+use Rattle.run_schedule.specs.declared.schedule.EndCause.TheVariants as cause
+use Rattle.run_schedule.specs.declared.schedule.ScheduleEntry.{ScheduleEntry}
+use Rattle.run_schedule.specs.declared.schedule.What.{What}
+use Rattle.run_schedule.specs.declared.schedule.What.TheVariants as what
 use Rattle.isolate.proofs.EntriesMore.{seen_behind-push}
 use Rattle.isolate.specs.PlainFile.{given_up_for, seen_of, seen_behind, seen_on, seen_run, plain_file, leaves_files}
 use Rattle.isolate.specs.RunLaws.{given_up_until}

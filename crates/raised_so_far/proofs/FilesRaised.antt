@@ -22,10 +22,10 @@ use Rattle.code_event.specs.declared.tick.Item.{Item}
 use Rattle.code_event.specs.declared.tick.Item.TheVariants as item
 use Rattle.plain_machine.specs.PlainMachine.{deopts, plain}
 use Rattle.plain_machine.specs.PlainFrames.{reasons_of}
-use Rattle.record_text.specs.Schedule.{Running, none_yet, running_after}
-use Rattle.record_text.specs.declared.schedule.EndCause.TheVariants as cause
-use Rattle.record_text.specs.declared.schedule.ScheduleEntry.{ScheduleEntry}
-use Rattle.record_text.specs.declared.schedule.What.TheVariants as what
+use Rattle.run_schedule.specs.Schedule.{Running, none_yet, running_after}
+use Rattle.run_schedule.specs.declared.schedule.EndCause.TheVariants as cause
+use Rattle.run_schedule.specs.declared.schedule.ScheduleEntry.{ScheduleEntry}
+use Rattle.run_schedule.specs.declared.schedule.What.TheVariants as what
 use Rattle.isolate.proofs.EntriesMore.{seen_behind-push}
 use Rattle.isolate.specs.PlainFile.{given_up, given_up_for, seen_on, tick_at}
 use Rattle.isolate.specs.RunLaws.{last_step, last_time, given_up_until}

@@ -7,8 +7,8 @@ use Rattle.prof_base.specs.declared.ids.SessionId.{SessionId}
 use Rattle.code_event.proofs.EachElement.{all_mapped}
 use Rattle.code_event.specs.ItemList.{ListSoFar, without}
 use Rattle.code_event.specs.declared.event.Options.{Options}
-use Rattle.record_text.specs.Schedule.{Course, Running, course_after}
-use Rattle.record_text.specs.declared.schedule.What.TheVariants.{Start, Stop}
+use Rattle.run_schedule.specs.Schedule.{Course, Running, course_after}
+use Rattle.run_schedule.specs.declared.schedule.What.TheVariants.{Start, Stop}
 use Rattle.raised_so_far.specs.ItemsSoFar.{at_time, SameSessions}
 
 reverse_first : {X : Type 0} (x : X) (xs : List X) → reverse (x ∷ xs) ≡ reverse xs ++ x ∷ []

@@ -17,7 +17,7 @@ use Rattle.code_event.specs.declared.tick.Item.{Item}
 use Rattle.code_event.specs.declared.tick.Item.TheVariants as item
 use Rattle.code_event.specs.declared.tick.Tick.{Tick}
 use Rattle.plain_machine.specs.PlainMachine.{deopts}
-use Rattle.record_text.specs.Schedule.{Course, Running, none_yet, course_on, running_after}
+use Rattle.run_schedule.specs.Schedule.{Course, Running, none_yet, course_on, running_after}
 use Rattle.isolate.specs.PlainFile.{given_up_for, tick_at}
 use Rattle.isolate.specs.RunLaws.{last_time}
 use Rattle.raised_so_far.proofs.Entries.{step_adds}

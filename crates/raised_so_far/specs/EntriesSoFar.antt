@@ -4,9 +4,9 @@ use Rattle.guest_program.specs.declared.instr.Func.{Func}
 use Rattle.code_event.specs.Seen.{Seen}
 use Rattle.isolate.specs.PlainFile.{seen_on}
 use Rattle.isolate.specs.RunLaws.{given_up_until}
-use Rattle.record_text.specs.declared.schedule.What.{What}
-use Rattle.record_text.specs.declared.schedule.What.TheVariants.{Stop}
-use Rattle.record_text.specs.declared.schedule.ScheduleEntry.{ScheduleEntry}
+use Rattle.run_schedule.specs.declared.schedule.What.{What}
+use Rattle.run_schedule.specs.declared.schedule.What.TheVariants.{Stop}
+use Rattle.run_schedule.specs.declared.schedule.ScheduleEntry.{ScheduleEntry}
 
 -- what is seen of the entries so far, and then the deoptimisations since the last of them, up to this step
 abbrev pub seen_so_far : List Func → ℕ → List ScheduleEntry → ℕ → List Seen

@@ -7,10 +7,10 @@ use Rattle.code_event.specs.declared.event.CodeEvent.{CodeEvent}
 use Rattle.code_event.specs.declared.event.CodeEvent.TheVariants.{Stop, Finish}
 use Rattle.code_event.specs.declared.tick.Item.{Item}
 use Rattle.code_event.specs.declared.tick.Item.TheVariants as item
-use Rattle.record_text.specs.ScheduleParts.{ScheduleParts}
-use Rattle.record_text.specs.declared.schedule.EndCause.TheVariants as cause
-use Rattle.record_text.specs.declared.schedule.ScheduleEntry.{ScheduleEntry}
-use Rattle.record_text.specs.declared.schedule.What.TheVariants as what
+use Rattle.run_schedule.specs.ScheduleParts.{ScheduleParts}
+use Rattle.run_schedule.specs.declared.schedule.EndCause.TheVariants as cause
+use Rattle.run_schedule.specs.declared.schedule.ScheduleEntry.{ScheduleEntry}
+use Rattle.run_schedule.specs.declared.schedule.What.TheVariants as what
 use Rattle.isolate.specs.PlainFile.{plain_files}
 use Rattle.raised_so_far.specs.Raised.{EndsFor, IsRaised, IsWhole}
 

@@ -6,7 +6,7 @@ use Rattle.code_event.specs.declared.event.CodeEvent.{CodeEvent}
 use Rattle.code_event.specs.declared.event.CodeEvent.TheVariants.{Start, Stop, Finish}
 use Rattle.code_event.specs.declared.tick.Item.{Item}
 use Rattle.code_event.specs.declared.tick.Item.TheVariants as item
-use Rattle.record_text.specs.Schedule.{Course}
+use Rattle.run_schedule.specs.Schedule.{Course}
 
 -- before any item
 abbrev pub nothing_yet : ListSoFar

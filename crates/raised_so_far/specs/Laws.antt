@@ -20,14 +20,14 @@ use Rattle.code_event.specs.declared.tick.Item.TheVariants as item
 use Rattle.code_event.specs.declared.tick.Tick.{Tick}
 use Rattle.plain_machine.specs.PlainMachine.{plain}
 use Rattle.plain_machine.specs.PlainFrames.{plain_frames, reasons_of}
-use Rattle.record_text.specs.Schedule.{HasSession, none_yet, course_on, running_after}
-use Rattle.record_text.specs.ScheduleParts.{ScheduleParts}
-use Rattle.record_text.specs.Source.{source_for}
-use Rattle.record_text.specs.declared.schedule.EndCause.{EndCause}
-use Rattle.record_text.specs.declared.schedule.EndCause.TheVariants as cause
-use Rattle.record_text.specs.declared.schedule.ScheduleEntry.{ScheduleEntry}
-use Rattle.record_text.specs.declared.schedule.What.TheVariants.{Sampled, Dropped}
-use Rattle.record_text.specs.declared.schedule.What.TheVariants as what
+use Rattle.run_schedule.specs.Schedule.{HasSession, none_yet, course_on, running_after}
+use Rattle.run_schedule.specs.ScheduleParts.{ScheduleParts}
+use Rattle.run_schedule.specs.Source.{source_for}
+use Rattle.run_schedule.specs.declared.schedule.EndCause.{EndCause}
+use Rattle.run_schedule.specs.declared.schedule.EndCause.TheVariants as cause
+use Rattle.run_schedule.specs.declared.schedule.ScheduleEntry.{ScheduleEntry}
+use Rattle.run_schedule.specs.declared.schedule.What.TheVariants.{Sampled, Dropped}
+use Rattle.run_schedule.specs.declared.schedule.What.TheVariants as what
 use Rattle.isolate.specs.PlainFile.{given_up_for, plain_file, leaves_files}
 use Rattle.isolate.specs.RunLaws.{last_time}
 use Rattle.raised_so_far.specs.EntriesSoFar.{has_stop}

@@ -13,12 +13,12 @@ use Rattle.code_event.specs.declared.entry.Entry.{Entry}
 use Rattle.code_event.specs.declared.tick.Item.{Item}
 use Rattle.plain_machine.specs.PlainMachine.{plain}
 use Rattle.plain_machine.specs.PlainFrames.{reasons_of}
-use Rattle.record_text.specs.Schedule.{none_yet, course_on}
-use Rattle.record_text.specs.ScheduleParts.{ScheduleParts}
-use Rattle.record_text.specs.declared.schedule.EndCause.{EndCause}
-use Rattle.record_text.specs.declared.schedule.EndCause.TheVariants as cause
-use Rattle.record_text.specs.declared.schedule.What.TheVariants.{End}
-use Rattle.record_text.specs.declared.schedule.ScheduleEntry.{ScheduleEntry}
+use Rattle.run_schedule.specs.Schedule.{none_yet, course_on}
+use Rattle.run_schedule.specs.ScheduleParts.{ScheduleParts}
+use Rattle.run_schedule.specs.declared.schedule.EndCause.{EndCause}
+use Rattle.run_schedule.specs.declared.schedule.EndCause.TheVariants as cause
+use Rattle.run_schedule.specs.declared.schedule.What.TheVariants.{End}
+use Rattle.run_schedule.specs.declared.schedule.ScheduleEntry.{ScheduleEntry}
 use Rattle.isolate.specs.PlainFile.{plain_file, seen_run}
 use Rattle.isolate.specs.RunLaws.{last_step, last_time}
 use Rattle.raised_so_far.specs.EntriesSoFar.{has_stop, seen_so_far}

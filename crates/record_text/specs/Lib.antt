@@ -1,4 +1,2 @@
-pub mod Examples
-pub mod Schedule
-pub mod ScheduleParts
-pub mod Source
+pub mod Refusals
+pub mod Words

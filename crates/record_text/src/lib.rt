@@ -1,13 +1,11 @@
-//! Records of runs. A schedule says what an isolate did and when: together with the guest's program
-//! it determines the whole run.
+//! What the texts of records share: the rules that their lines keep, their refusals, and words and
+//! numbers that stand in more than one of them.
 #![tactic(auto)]
 
-pub mod examples;
-pub mod laws;
-mod limits;
 mod refused;
-mod schedule;
+mod rule;
+mod words;
 
-pub use limits::{DEFAULT_RING, MAX_BUDGET, MAX_ENTRIES, MAX_PORT, MAX_RING, MIN_ENTRIES};
-pub use refused::{LineCause, ReadRefused};
-pub use schedule::{EndCause, Schedule, ScheduleEntry, What};
+pub use refused::{LineCause, ReadRefused, line_cause};
+pub use rule::Rule;
+pub use words::{bound_of, mode_of, mode_word, put_max, put_number, put_word, session, time};

@@ -10,13 +10,13 @@ use Rattle.code_event.proofs.EachElement.{all_mapped, all_pushed}
 use Rattle.code_event.specs.declared.event.Options.{Options}
 use Rattle.isolate.proofs.Going.{going_before, may_come}
 use Rattle.isolate.specs.Fits.{IsGoing, MayEndFor, MayComeAbout, Fits}
-use Rattle.record_text.specs.Schedule.{Course, course_after, course_on, running_after, is_end, MayStandBehind, IsInOrder, IsEndWithin, MayFollow, EachMayFollow, IsAtLastStep, has_end, IsLegalSchedule, none_yet}
-use Rattle.record_text.specs.ScheduleParts.{ScheduleParts}
-use Rattle.record_text.specs.declared.schedule.EndCause.{EndCause}
-use Rattle.record_text.specs.declared.schedule.EndCause.TheVariants as cause
-use Rattle.record_text.specs.declared.schedule.What.{What}
-use Rattle.record_text.specs.declared.schedule.What.TheVariants.{Sampled, Start, End}
-use Rattle.record_text.specs.declared.schedule.ScheduleEntry.{ScheduleEntry}
+use Rattle.run_schedule.specs.Schedule.{Course, course_after, course_on, running_after, is_end, MayStandBehind, IsInOrder, IsEndWithin, MayFollow, EachMayFollow, IsAtLastStep, has_end, IsLegalSchedule, none_yet}
+use Rattle.run_schedule.specs.ScheduleParts.{ScheduleParts}
+use Rattle.run_schedule.specs.declared.schedule.EndCause.{EndCause}
+use Rattle.run_schedule.specs.declared.schedule.EndCause.TheVariants as cause
+use Rattle.run_schedule.specs.declared.schedule.What.{What}
+use Rattle.run_schedule.specs.declared.schedule.What.TheVariants.{Sampled, Start, End}
+use Rattle.run_schedule.specs.declared.schedule.ScheduleEntry.{ScheduleEntry}
 use Rattle.step_clock.specs.ClockLaws.{ClocksAreLegal, ClocksFit}
 use Rattle.step_clock.specs.StepClock.{entry_at, is_asked, samples_before, entries_before, last_step, EndsWithin}
 

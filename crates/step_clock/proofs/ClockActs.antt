@@ -7,12 +7,12 @@ use Rattle.code_event.specs.declared.event.Answer.TheVariants as answer
 use Rattle.code_event.specs.declared.event.Command.{Command}
 use Rattle.code_event.specs.declared.event.Command.TheVariants as command
 use Rattle.code_event.specs.declared.event.Options.{Options}
-use Rattle.record_text.specs.Schedule.{running_after}
-use Rattle.record_text.specs.declared.limits.TheConstants.{MAX_PORT}
-use Rattle.record_text.specs.declared.schedule.EndCause.{EndCause}
-use Rattle.record_text.specs.declared.schedule.EndCause.TheVariants as cause
-use Rattle.record_text.specs.declared.schedule.ScheduleEntry.{ScheduleEntry}
-use Rattle.record_text.specs.declared.schedule.What.TheVariants.{Sampled, Start, End}
+use Rattle.run_schedule.specs.Schedule.{running_after}
+use Rattle.run_schedule.specs.declared.limits.TheConstants.{MAX_PORT}
+use Rattle.run_schedule.specs.declared.schedule.EndCause.{EndCause}
+use Rattle.run_schedule.specs.declared.schedule.EndCause.TheVariants as cause
+use Rattle.run_schedule.specs.declared.schedule.ScheduleEntry.{ScheduleEntry}
+use Rattle.run_schedule.specs.declared.schedule.What.TheVariants.{Sampled, Start, End}
 use Rattle.isolate.specs.RunLaws.{last_time}
 use Rattle.raised_so_far.proofs.Entries.{last_time-push}
 use Rattle.isolate_acts.proofs.SchedulePhases.{chosen}

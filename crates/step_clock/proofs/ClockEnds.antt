@@ -11,10 +11,10 @@ use Rattle.isolate.specs.Fits.{IsGoing}
 use Rattle.isolate_acts.specs.FitsSoFar.{IsAtStep}
 use Rattle.isolate_acts.specs.Phases.{IsDue, closing}
 use Rattle.isolate_acts.specs.Progress.{Moment, Progress}
-use Rattle.record_text.specs.declared.schedule.EndCause.{EndCause}
-use Rattle.record_text.specs.declared.schedule.EndCause.TheVariants as cause
-use Rattle.record_text.specs.declared.schedule.ScheduleEntry.{ScheduleEntry}
-use Rattle.record_text.specs.declared.schedule.What.TheVariants.{End}
+use Rattle.run_schedule.specs.declared.schedule.EndCause.{EndCause}
+use Rattle.run_schedule.specs.declared.schedule.EndCause.TheVariants as cause
+use Rattle.run_schedule.specs.declared.schedule.ScheduleEntry.{ScheduleEntry}
+use Rattle.run_schedule.specs.declared.schedule.What.TheVariants.{End}
 use Rattle.step_clock.specs.StepClock.{EndsWithin, IsStepClock, IsWholeRecording, entry_at, entries_before, last_step}
 use Rattle.step_clock.proofs.ClockEntries.{fewer_before, first_of_later}
 use Rattle.step_clock.proofs.ClockOnce.{either_end, has_end, over_before}

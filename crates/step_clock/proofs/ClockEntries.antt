@@ -5,10 +5,10 @@ use Rattle.std.proofs.lemmas.List.{append_assoc, append-nil, length-append, take
 use Rattle.std.specs.List.{AllByRecursion}
 use Rattle.std.specs.Prelude.{Bool, true, false, not, ◌==◌, if◌then◌else◌}
 use Rattle.code_event.specs.declared.event.Options.{Options}
-use Rattle.record_text.specs.declared.schedule.ScheduleEntry.{ScheduleEntry}
-use Rattle.record_text.specs.declared.schedule.What.{What}
-use Rattle.record_text.specs.declared.schedule.What.TheVariants.{Sampled}
-use Rattle.record_text.specs.Schedule.{running_after}
+use Rattle.run_schedule.specs.declared.schedule.ScheduleEntry.{ScheduleEntry}
+use Rattle.run_schedule.specs.declared.schedule.What.{What}
+use Rattle.run_schedule.specs.declared.schedule.What.TheVariants.{Sampled}
+use Rattle.run_schedule.specs.Schedule.{running_after}
 use Rattle.isolate.specs.RunLaws.{last_time, time_behind}
 use Rattle.isolate_acts.specs.Progress.{Progress, entry_now, entry_time, some_runs}
 use Rattle.step_clock.specs.StepClock.{entry_at, is_asked, entries_before}

@@ -10,8 +10,8 @@ use Rattle.code_event.specs.declared.event.Options.{Options}
 use Rattle.code_event.specs.declared.tick.Item.TheVariants as item
 use Rattle.code_event.specs.declared.tick.Tick.{Tick}
 use Rattle.isolate.specs.PlainFile.{leaves_files}
-use Rattle.record_text.specs.declared.schedule.EndCause.{EndCause}
-use Rattle.record_text.specs.declared.schedule.EndCause.TheVariants as cause
+use Rattle.run_schedule.specs.declared.schedule.EndCause.{EndCause}
+use Rattle.run_schedule.specs.declared.schedule.EndCause.TheVariants as cause
 use Rattle.raised_so_far.proofs.Items.{all_joined}
 use Rattle.raised_so_far.specs.FileOrder.{ItemLeavesNoFile, LeavesNoFile}
 use Rattle.raised_so_far.specs.ItemsSoFar.{IsCodeEvent}

@@ -10,9 +10,9 @@ use Rattle.plain_machine.specs.declared.ended.Ended.{Ended}
 use Rattle.plain_machine.specs.declared.ended.Ended.TheVariants as ended
 use Rattle.isolate.proofs.Going.{going_before}
 use Rattle.isolate.specs.Fits.{IsGoing, EndsAt}
-use Rattle.record_text.specs.declared.schedule.EndCause.{EndCause}
-use Rattle.record_text.specs.declared.schedule.EndCause.TheVariants as cause
-use Rattle.record_text.specs.declared.schedule.What.TheVariants.{End}
+use Rattle.run_schedule.specs.declared.schedule.EndCause.{EndCause}
+use Rattle.run_schedule.specs.declared.schedule.EndCause.TheVariants as cause
+use Rattle.run_schedule.specs.declared.schedule.What.TheVariants.{End}
 use Rattle.step_clock.proofs.Clock.{within_or_past}
 use Rattle.step_clock.specs.ClockLaws.{ClocksRun, ClocksAgree}
 use Rattle.step_clock.specs.StepClock.{entry_at, entries_before, with_end, IsWholeRecording, EndsWithin}

@@ -4,7 +4,7 @@ use Rattle.std.specs.Prelude.{Bool, true, false, not, ◌==◌, ◌&&◌, ◌||�
 use Rattle.code_event.specs.declared.event.Command.{Command}
 use Rattle.code_event.specs.declared.event.Command.TheVariants as command
 use Rattle.code_event.specs.declared.event.Options.{Options}
-use Rattle.record_text.specs.declared.schedule.EndCause.{EndCause}
+use Rattle.run_schedule.specs.declared.schedule.EndCause.{EndCause}
 use Rattle.isolate.specs.RunLaws.{last_time}
 use Rattle.isolate_acts.proofs.SchedulePhases.{chosen}
 use Rattle.isolate_acts.specs.Acts.{Act, samples}

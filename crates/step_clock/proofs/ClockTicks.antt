@@ -10,7 +10,7 @@ use Rattle.code_event.specs.declared.tick.Item.TheVariants as item
 use Rattle.code_event.specs.declared.tick.Tick.{Tick}
 use Rattle.pipe_core.proofs.StampedRest.{ticks_of-append}
 use Rattle.pipe_core.specs.Stamps.{ticks_of}
-use Rattle.record_text.specs.declared.limits.TheConstants.{MAX_PORT}
+use Rattle.run_schedule.specs.declared.limits.TheConstants.{MAX_PORT}
 use Rattle.isolate_acts.specs.Acts.{Act, passes, starts, stops, refuses, cuts_off, asks, samples, steps, ends, ends_short, act_after, act_calls, act_raises, calls_on, cut_marks, given_up_tick, given_up_ticks, is_seen_giving_up, moment_after, numbered, raised_on, raised_short}
 use Rattle.isolate_acts.specs.Phases.{Phase, at_port, asking, sampling, stepping, closing, must_end, over, LeadTo, MayAct, after_end, after_ports, first_phase}
 use Rattle.isolate_acts.specs.Progress.{Moment, Progress, entry_time, goes_on, is_filled, some_runs}

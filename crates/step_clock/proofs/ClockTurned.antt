@@ -5,8 +5,8 @@ use Rattle.std.proofs.lemmas.Bool.Decides.{nat_tests}
 use Rattle.std.proofs.lemmas.List.Sums.{sum_by-append}
 use Rattle.std.specs.Prelude.{Bool, true, false, cond, count_by, ◌&&◌, ◌==◌, None, if◌then◌else◌}
 use Rattle.code_event.specs.declared.event.Options.{Options}
-use Rattle.record_text.specs.declared.schedule.ScheduleEntry.{ScheduleEntry}
-use Rattle.record_text.specs.declared.schedule.What.TheVariants.{Dropped}
+use Rattle.run_schedule.specs.declared.schedule.ScheduleEntry.{ScheduleEntry}
+use Rattle.run_schedule.specs.declared.schedule.What.TheVariants.{Dropped}
 use Rattle.guest_program.specs.declared.instr.Func.{Func}
 use Rattle.isolate_acts.proofs.FitsKept.{acts_fit}
 use Rattle.isolate_acts.proofs.Within.{acts_within}

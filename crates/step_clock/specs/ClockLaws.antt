@@ -3,9 +3,9 @@ use Rattle.std.specs.Prelude.{◌≡◌, ℕ, ◌≤◌, List}
 use Rattle.guest_program.specs.declared.instr.Func.{Func}
 use Rattle.prof_base.specs.declared.interval.TheConstants.{MAX_INTERVAL}
 use Rattle.isolate.specs.Fits.{Fits}
-use Rattle.record_text.specs.Schedule.{IsLegalSchedule}
-use Rattle.record_text.specs.ScheduleParts.{ScheduleParts}
-use Rattle.record_text.specs.declared.schedule.ScheduleEntry.{ScheduleEntry}
+use Rattle.run_schedule.specs.Schedule.{IsLegalSchedule}
+use Rattle.run_schedule.specs.ScheduleParts.{ScheduleParts}
+use Rattle.run_schedule.specs.declared.schedule.ScheduleEntry.{ScheduleEntry}
 use Rattle.step_clock.specs.StepClock.{IsStepClock}
 
 -- with a budget of at least 1 and a limit of at least 2, they keep the rules

@@ -1,7 +1,7 @@
 use Rattle.std.proofs.Common.{List, [], ◌∷◌, ◌++◌, ap, sym, ◌∙◌}
 use Rattle.std.specs.Prelude.{true, None}
 use Rattle.code_event.specs.Seen.{Seen}
-use Rattle.record_text.specs.Schedule.{none_yet, course_on}
+use Rattle.run_schedule.specs.Schedule.{none_yet, course_on}
 use Rattle.isolate.specs.PlainFile.{seen_of, seen_on, tick_at}
 use Rattle.isolate.specs.RunLaws.{given_up_until}
 use Rattle.isolate.proofs.EntriesMore.{seen_behind-push, source_after-length}

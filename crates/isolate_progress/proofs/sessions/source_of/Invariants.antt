@@ -1,5 +1,5 @@
 use Rattle.std.proofs.Common.{◌≡◌, take}
-use Rattle.record_text.specs.Source.{source_for}
+use Rattle.run_schedule.specs.Source.{source_for}
 use Rattle.isolate_progress.proofs.sessions.source_of.Given as goal
 
 abbrev pub invariant-loop-session : goal.invariant-loop-session

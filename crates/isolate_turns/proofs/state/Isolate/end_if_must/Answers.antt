@@ -1,6 +1,6 @@
 use Rattle.std.proofs.Common.{◌≡◌, true, false, ap, sym, ◌∙◌}
 use Rattle.std.specs.Prelude.{Bool, ◌&&◌, ◌||◌, not, if◌then◌else◌}
-use Rattle.record_text.specs.declared.schedule.EndCause.TheVariants as cause
+use Rattle.run_schedule.specs.declared.schedule.EndCause.TheVariants as cause
 use Rattle.isolate_acts.specs.Progress.{goes_on, is_filled}
 use Rattle.isolate_turns.proofs.CommandRuns.{ended_runs, end_stays, free_runs, going_is, some_moment}
 use Rattle.isolate_turns.proofs.state.Isolate.end_if_must.Goals as goal

@@ -1,5 +1,5 @@
 use Rattle.std.proofs.Common.{ap, sym, ◌∙◌}
-use Rattle.record_text.specs.declared.schedule.EndCause.TheVariants as cause
+use Rattle.run_schedule.specs.declared.schedule.EndCause.TheVariants as cause
 use Rattle.isolate_turns.proofs.Going.{goes_by_full, now_ended}
 use Rattle.isolate_turns.proofs.state.Isolate.go_on_sampled.Goals as goal
 

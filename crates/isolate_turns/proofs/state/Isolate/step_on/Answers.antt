@@ -1,5 +1,5 @@
 use Rattle.std.proofs.Common.{◌<◌, [], ◌∷◌, ap, arith, ◌∙◌}
-use Rattle.record_text.specs.declared.schedule.EndCause.TheVariants as cause
+use Rattle.run_schedule.specs.declared.schedule.EndCause.TheVariants as cause
 use Rattle.isolate_acts.specs.Calls.{read, with_calls}
 use Rattle.isolate_acts.specs.Phases.{closing, stepping}
 use Rattle.isolate_acts.specs.Progress.{entry_count}

@@ -2,10 +2,10 @@
 use Rattle.std.specs.Prelude.{ℕ, ◌≤◌, List, length, Option, Some, None, IfSome}
 use Rattle.std.specs.List.{AllByRecursion}
 use Rattle.prof_base.specs.declared.interval.TheConstants.{MAX_INTERVAL}
-use Rattle.record_text.specs.declared.limits.TheConstants.{MAX_RING, MAX_BUDGET, MIN_ENTRIES, MAX_ENTRIES, MAX_PORT}
-use Rattle.record_text.specs.declared.schedule.What.{What}
-use Rattle.record_text.specs.declared.schedule.What.TheVariants.{Start, Stop}
-use Rattle.record_text.specs.declared.schedule.ScheduleEntry.{ScheduleEntry}
+use Rattle.run_schedule.specs.declared.limits.TheConstants.{MAX_RING, MAX_BUDGET, MIN_ENTRIES, MAX_ENTRIES, MAX_PORT}
+use Rattle.run_schedule.specs.declared.schedule.What.{What}
+use Rattle.run_schedule.specs.declared.schedule.What.TheVariants.{Start, Stop}
+use Rattle.run_schedule.specs.declared.schedule.ScheduleEntry.{ScheduleEntry}
 
 -- the base interval in microseconds, the ring of samples, the budget of steps, the limit of entries, and the entries in order
 pub record ScheduleParts : Type 0 where

@@ -1,7 +1,7 @@
 // Schedules: what an isolate did, and when.
 ghost use Rattle.std.specs.Prelude.{◌≡◌, ◌↔◌, ◌<◌, ◌≤◌, [], ◌∷◌, ◌++◌, false, length, IfOk, IsTrue};
 ghost use Rattle.std.specs.List.{AllByRecursion};
-ghost use Rattle.record_text.specs.ScheduleParts.{HasPort};
+ghost use Rattle.run_schedule.specs.ScheduleParts.{HasPort};
 
 use crate::limits::{MAX_BUDGET, MAX_ENTRIES, MAX_RING, MIN_ENTRIES};
 use code_event::Options;
@@ -64,7 +64,7 @@ pub struct Schedule {
 
 impl Model for Schedule {
     ghost use Rattle.std.specs.Prelude.{◌≤◌, vec_capacity};
-    ghost use Rattle.record_text.specs.ScheduleParts.{ScheduleParts, IsInRange};
+    ghost use Rattle.run_schedule.specs.ScheduleParts.{ScheduleParts, IsInRange};
 
     ghost Value = { ScheduleParts };
 

@@ -1,9 +1,9 @@
 //! The definitions of schedules, computed on small ones. Each function does nothing: its contract is
 //! the example.
 ghost use Rattle.std.specs.Prelude.{◌≡◌, ◌∷◌, []};
-ghost use Rattle.record_text.specs.Schedule.{IsLegalSchedule};
-ghost use Rattle.record_text.specs.Source.{source_after, source_of};
-ghost use Rattle.record_text.specs.Examples.{full_at_its_limit, halted_with_room, dropped_with_room, stopped_from_another_port, sampled_for_no_session, sampled_twice_at_a_step, full_before_its_limit, halted_at_its_limit, without_an_end, sampled_after_its_end, sampled_at_its_budget, falling_in_time, two_sessions};
+ghost use Rattle.run_schedule.specs.Schedule.{IsLegalSchedule};
+ghost use Rattle.run_schedule.specs.Source.{source_after, source_of};
+ghost use Rattle.run_schedule.specs.Examples.{full_at_its_limit, halted_with_room, dropped_with_room, stopped_from_another_port, sampled_for_no_session, sampled_twice_at_a_step, full_before_its_limit, halted_at_its_limit, without_an_end, sampled_after_its_end, sampled_at_its_budget, falling_in_time, two_sessions};
 
 /// A schedule that keeps all rules is legal, whether it ends because it is full or because the program
 /// halts.

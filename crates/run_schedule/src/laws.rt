@@ -1,6 +1,6 @@
 //! Laws of schedules. Each function does nothing: its contract is the law.
 ghost use Rattle.std.specs.Prelude.{◌≡◌};
-ghost use Rattle.record_text.specs.Source.{SourcesAreGreatest};
+ghost use Rattle.run_schedule.specs.Source.{SourcesAreGreatest};
 
 use crate::limits::{DEFAULT_RING, MAX_BUDGET, MAX_ENTRIES, MAX_PORT, MAX_RING, MIN_ENTRIES};
 

@@ -11,7 +11,7 @@ use Rattle.std.specs.Prelude.{false, ◌==◌, nat_lt}
 use Rattle.std.specs.Int.{IsGcd}
 use Rattle.prof_base.proofs.Intervals.{source_of_next}
 use Rattle.prof_base.specs.Interval.{rounded_of, IsSourceInterval}
-use Rattle.record_text.specs.Source.{gcd_within, gcd, source_with, SourcesAreGreatest}
+use Rattle.run_schedule.specs.Source.{gcd_within, gcd, source_with, SourcesAreGreatest}
 
 above_zero : (b : ℕ) → (b == 0) ≡ false → 0 < b
 above_zero b some = grind (arith, nat_tests)

@@ -1,9 +1,9 @@
 use Rattle.std.proofs.Common.{rules, refl, lit<, take}
 use Rattle.code_event.specs.ItemFile.{session}
-use Rattle.record_text.specs.Examples.{at, full_at_its_limit}
-use Rattle.record_text.specs.Schedule.{MayFollow}
-use Rattle.record_text.specs.declared.schedule.What.TheVariants.{Stop}
-use Rattle.record_text.proofs.examples.schedules_that_keep_the_rules_are_legal.Goals as goal
+use Rattle.run_schedule.specs.Examples.{at, full_at_its_limit}
+use Rattle.run_schedule.specs.Schedule.{MayFollow}
+use Rattle.run_schedule.specs.declared.schedule.What.TheVariants.{Stop}
+use Rattle.run_schedule.proofs.examples.schedules_that_keep_the_rules_are_legal.Goals as goal
 
 -- the session that is stopped is the first of those that run, and its interval is 1
 stop_may_follow : MayFollow full_at_its_limit (take 3 full_at_its_limit.entries) (at 3 (Stop 0 (session 1)))

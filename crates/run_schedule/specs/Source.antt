@@ -1,8 +1,8 @@
 -- The interval at which samples are taken for the sessions that run.
 use Rattle.std.specs.Prelude.{ℕ, zero, suc, ◌%◌, ◌^◌, nat_lt, List, [], ◌∷◌, map, take, ◌==◌, if◌then◌else◌}
 use Rattle.prof_base.specs.Interval.{rounded_of, IsSourceInterval}
-use Rattle.record_text.specs.ScheduleParts.{ScheduleParts}
-use Rattle.record_text.specs.Schedule.{Running, running_after}
+use Rattle.run_schedule.specs.ScheduleParts.{ScheduleParts}
+use Rattle.run_schedule.specs.Schedule.{Running, running_after}
 
 -- Euclid's algorithm, with at most this many remainders
 abbrev pub gcd_within : ℕ → ℕ → ℕ → ℕ

@@ -1,0 +1,4 @@
+pub mod Examples
+pub mod Schedule
+pub mod ScheduleParts
+pub mod Source
