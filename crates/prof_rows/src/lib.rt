@@ -10,6 +10,8 @@ mod code_maps;
 #[cfg(test)]
 mod events;
 #[cfg(test)]
+mod held;
+#[cfg(test)]
 mod profiles;
 #[cfg(test)]
 mod runs;
