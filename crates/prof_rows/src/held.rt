@@ -47,7 +47,9 @@ fn turn_to_end(isolate: &mut PlainIsolate, clock: &mut StepClock) -> Option<EndC
 // session.
 fn held_run(alloc: Global, text: &str) -> Option<Vec<u8>> {
     let program = read_program(alloc, text.as_bytes()).ok()?;
-    let mut isolate = opened(alloc, program, 1).ok()?;
+    let Ok(mut isolate) = opened(alloc, program, 1) else {
+        return None;
+    };
     let EndCause::Halt = turn_to_end(&mut isolate, &mut StepClock::new(1))? else {
         return None;
     };

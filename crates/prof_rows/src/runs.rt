@@ -174,9 +174,9 @@ fn a_run_ends_when_its_budget_is_spent(rt: HostRuntime) -> Result<(), Fail> {
     Ok(())
 }
 
-// Adds the nodes of the calls of f that called f, which have these numbers.
-fn put_callers(alloc: Global, out: &mut Vec<u8>, first: u32, last: u32) -> Result<(), AllocError> {
-    for id in first..last + 1 {
+// Adds the nodes of the calls of f that called f, which have the numbers from `first` to before `end`.
+fn put_callers(alloc: Global, out: &mut Vec<u8>, first: u32, end: u32) -> Result<(), AllocError> {
+    for id in first..end {
         let child = id.saturating_add(1);
         let node = format!(in alloc;
             r#"{{"id":{id},"callFrame":{{"functionName":"f","scriptId":"1","url":"a.js","lineNumber":2,"columnNumber":0}},"hitCount":0,"children":[{child}]}},"#
@@ -192,7 +192,7 @@ fn deep_file(alloc: Global) -> Result<Vec<u8>, AllocError> {
     file.extend_from_slice(
         br#"{"nodes":[{"id":1,"callFrame":{"functionName":"(root)","scriptId":"0","url":"","lineNumber":-1,"columnNumber":-1},"hitCount":0,"children":[2]},{"id":2,"callFrame":{"functionName":"main","scriptId":"1","url":"a.js","lineNumber":0,"columnNumber":0},"hitCount":0,"children":[3]},"#,
     )?;
-    put_callers(alloc, &mut file, 3, 255)?;
+    put_callers(alloc, &mut file, 3, 256)?;
     file.extend_from_slice(
         br#"{"id":256,"callFrame":{"functionName":"f","scriptId":"1","url":"a.js","lineNumber":2,"columnNumber":0},"hitCount":1,"positionTicks":[{"line":4,"ticks":1}]}],"startTime":0,"endTime":255,"samples":[2,256],"timeDeltas":[0,254]}"#,
     )?;
