@@ -11,9 +11,11 @@ import sys
 
 sys.dont_write_bytecode = True  # No folder is to appear beside the script.
 from items import Refused, files_of, read_items
-from programs import BUDGET, ENTRIES, read_program, run_program
+from programs import read_program, run_program
 
 SHOWN, SHORT = 1000, 8
+RANGES = [(1, 10**9), (1, 10**8), (2, 2**20)]  # of the numbers of `run`: the interval, the budget and the limit of entries
+DEFAULTS = (10**7, 2**20)  # where there are no words for the last two
 
 
 class Fault(Exception):
@@ -49,15 +51,17 @@ def is_name(word):
 
 
 def command(words):
-    """Returns the interval of `run PROG EVERY`, 0 for `fold ITEMS`, and None for other words."""
+    """Returns the interval, the budget and the limit of entries of `run PROG EVERY [BUDGET [ENTRIES]]`, nothing for
+    `fold ITEMS`, and None for other words."""
     if len(words) == 2 and words[0] == "fold" and is_name(words[1]):
-        return 0
-    if len(words) != 3 or words[0] != "run" or not is_name(words[1]):
+        return ()
+    numbers = words[2:]
+    if not 3 <= len(words) <= 5 or words[0] != "run" or not is_name(words[1]):
         return None
-    every = words[2]
-    if not re.fullmatch(r"[1-9][0-9]*", every) or int(every) > 10**9:
-        return None
-    return int(every)
+    for number, (least, most) in zip(numbers, RANGES):
+        if not re.fullmatch(r"[1-9][0-9]*", number) or not least <= int(number) <= most:
+            return None
+    return tuple(map(int, numbers)) + DEFAULTS[len(numbers) - 1 :]
 
 
 def hash_of(text):
@@ -103,16 +107,16 @@ def due_of(cause, end):
     }[cause]
 
 
-def run(name, text, every):
+def run(name, text, every, budget, limit):
     """Returns the files of `run`, each with its session, what is printed before the lines of the files, the
     schedule, and the fault that is due."""
     try:
         funcs = read_program(text)
     except Refused as at:
         raise Fault(2, f"program {name} {at}")
-    file, guest, samples, cause, end = run_program(funcs, every)
+    file, guest, samples, cause, end = run_program(funcs, every, budget, limit)
     entries = [f"  0 0 start 0 {every}"] + [f"  {s} {s} sampled" for s in samples] + [f"  {end} {end} end {cause}"]
-    schedule = [f"schedule {every} 256 {BUDGET} {ENTRIES} entries {len(entries)}"]
+    schedule = [f"schedule {every} 256 {budget} {limit} entries {len(entries)}"]
     if len(entries) <= SHORT:
         schedule += entries
     printed = f"{guest}end {cause} {end}\nsampled {len(samples)} dropped 0\n"
@@ -131,15 +135,15 @@ def fold(text):
 
 def work(case):
     """Returns what the command of the case does, as `run` says it."""
-    every = command(case["words"])
-    if every is None:
+    numbers = command(case["words"])
+    if numbers is None:
         raise Fault(1, "usage")
     name = case["words"][1]
     if case.get("read-fails") == "1":
         raise Fault(4, f"cannot read {name}")
     if name != case["name"]:
         raise Fault(3, f"no file {name}")
-    return run(name, case["text"], every) if every else fold(case["text"])
+    return run(name, case["text"], *numbers) if numbers else fold(case["text"])
 
 
 def answer(case):

@@ -6,7 +6,6 @@ from collections import namedtuple
 
 from items import TEXT, Refused, Session, Tick, file_of, frames_of, number, one_of, require, text_at, value_at, word_at
 
-BUDGET, ENTRIES = 10_000_000, 1_048_576  # the greatest numbers of steps and of entries of a schedule
 FRAMES, MODULUS = 255, 2**64
 SLOTS, DEPTH = 4096, 4  # the most instructions of optimised code, and how many calls deep inline functions go into it
 
@@ -207,21 +206,22 @@ class Machine:
 Run = namedtuple("Run", "file printed samples cause end")
 
 
-def run_program(funcs, every):
-    """What comes of a run: the file, the guest's text, the steps of the samples, and the cause and step of the end."""
+def run_program(funcs, every, budget, limit):
+    """What comes of a run of so many steps and entries at most: the file, the guest's text, the steps of the samples,
+    and the cause and step of the end."""
     machine, step, samples, cause = Machine(funcs), 0, [], None
     ticks = [Tick(0, 0, False, machine.frames())]
     while not cause:
         if step > 0 and step % every == 0:
             samples.append(step)
             ticks.append(Tick(step, every, True, machine.frames()))
-        if len(samples) + 2 == ENTRIES:  # with the start and the end
+        if len(samples) + 2 == limit:  # with the start and the end
             cause = "full"
             break
         machine.step()
         step += 1
         if machine.gave_up:
             ticks.append(Tick(samples[-1] if samples else 0, 0, False, machine.frames()))
-        cause = machine.end or ("budget" if step == BUDGET else None)
+        cause = machine.end or ("budget" if step == budget else None)
     file = file_of(every, Session(every, "leaf", "all", 0, ticks), step, machine.reasons)
     return Run(file, machine.printed, samples, cause, step)

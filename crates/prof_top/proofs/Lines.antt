@@ -1,11 +1,11 @@
 -- Lines of the command table: words are one line at most, and what a text that was not read says of them.
-use Rattle.std.proofs.Common.{◌≡◌, ◌⊎◌, inl, inr, ℕ, List, ◌∷◌, [], refl, ap, sym, subst, ◌∙◌, arith}
+use Rattle.std.proofs.Common.{◌≡◌, ◌≤◌, lit≤, ◌⊎◌, inl, inr, ℕ, List, ◌∷◌, [], refl, ap, sym, subst, ◌∙◌, arith}
 use Rattle.std.specs.Prelude.{Option, Contains}
 use Rattle.std.specs.List.{AllByRecursion}
 use Rattle.prof_outer.specs.Files.{FileMap}
 use Rattle.prof_top.specs.Asked.{Kind, asked, asked_as, guest_program, item_list, MayRead, MayReadAll}
 use Rattle.prof_top.specs.Causes.{IsUnreadAs, IsReadable, IsStoppedAs}
-use Rattle.prof_top.specs.Command.{Means, words_of}
+use Rattle.prof_top.specs.Command.{AreLimits, Means, options_of, words_of}
 use Rattle.prof_top.specs.Ending.{ending_of, status_of}
 use Rattle.prof_top.specs.Said.{IsNamed}
 use Rattle.prof_top.specs.Status.{StopsReading}
@@ -15,21 +15,31 @@ use Rattle.prof_top.specs.declared.load.Unread.{Unread}
 use Rattle.prof_top.specs.declared.load.Unread.TheVariants as unread
 use Rattle.prof_top.specs.declared.words.CommandLine.{CommandLine}
 use Rattle.prof_top.specs.declared.words.CommandLine.TheVariants.{Run, Fold}
+use Rattle.prof_top.specs.declared.words.RunLimits.{RunLimits}
+use Rattle.prof_top.specs.declared.words.RunLimits.TheVariants.{Default, Steps, Both}
+use Rattle.prof_base.specs.declared.interval.TheConstants.{MAX_INTERVAL}
+use Rattle.prof_top.specs.Task.{AreOptions}
 
 -- lines with the same words ask for the same texts
 asked_once : (one other : CommandLine) → words_of one ≡ words_of other → asked one ≡ asked other
-asked_once (Run program every) (Run program' every') same = let name : program ≡ program' = cc same in ap (λ (n : List ℕ). asked_as guest_program n ∷ []) name
+asked_once (Run program every limits) (Run program' every' limits') same = let name : program ≡ program' = cc same in ap (λ (n : List ℕ). asked_as guest_program n ∷ []) name
 asked_once (Fold items) (Fold items') same = let name : items ≡ items' = cc same in ap (λ (n : List ℕ). asked_as item_list n ∷ []) name
-asked_once (Run program every) (Fold items) same = absurd (cc same)
-asked_once (Fold items) (Run program every) same = absurd (cc same)
+asked_once (Run program every limits) (Fold items) same = absurd (cc same)
+asked_once (Fold items) (Run program every limits) same = absurd (cc same)
 
 -- what can be read for one line that the words mean, can be read for each
 pub may_read_all : (words : List (List ℕ)) (held : Option FileMap) → IsReadable words held → MayReadAll held words
 may_read_all words held is line means = subst (AllByRecursion (MayRead held)) (asked_once is.0 line (sym is.1.spelled ∙ means.spelled)) is.2
 
+-- a run's interval and its limits, given or not, are in their ranges
+pub options_ready : (every : ℕ) (limits : RunLimits) → 1 ≤ every → every ≤ MAX_INTERVAL → AreLimits limits → AreOptions (options_of every limits)
+options_ready every Default low high fits = record { every_low = low; every_high = high; budget_low = lit≤ tt; budget_high = lit≤ tt; entries_low = lit≤ tt; entries_high = lit≤ tt }
+options_ready every (Steps budget) low high fits = record { every_low = low; every_high = high; budget_low = fits.0; budget_high = fits.1; entries_low = lit≤ tt; entries_high = lit≤ tt }
+options_ready every (Both budget entries) low high fits = record { every_low = low; every_high = high; budget_low = fits.0; budget_high = fits.1; entries_low = fits.2; entries_high = fits.3 }
+
 -- a run asks for its program, and a fold for its item list
-pub run_asks : (line : CommandLine) (program : List ℕ) (every : ℕ) → line ≡ Run program every → Contains (asked line) (asked_as guest_program program)
-run_asks line program every is = subst (λ l. Contains (asked l) (asked_as guest_program program)) (sym is) (0, omega arith, refl)
+pub run_asks : (line : CommandLine) (program : List ℕ) (every : ℕ) (limits : RunLimits) → line ≡ Run program every limits → Contains (asked line) (asked_as guest_program program)
+run_asks line program every limits is = subst (λ l. Contains (asked l) (asked_as guest_program program)) (sym is) (0, omega arith, refl)
 
 pub fold_asks : (line : CommandLine) (items : List ℕ) → line ≡ Fold items → Contains (asked line) (asked_as item_list items)
 fold_asks line items is = subst (λ l. Contains (asked l) (asked_as item_list items)) (sym is) (0, omega arith, refl)

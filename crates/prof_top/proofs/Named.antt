@@ -13,8 +13,8 @@ use Rattle.prof_top.specs.declared.load.Task.TheVariants as task
 
 -- a run that was loaded may come to this end, which no fold is due to
 ends_so : (words : List (List ℕ)) (held : Option FileMap) (t : Task) (ending : Ending) → IsLoaded words held t → MayBeDue t ending → (Done ≡ ending → ⊥) → EndsSo words held ending
-ends_so words held (task.Run funcs every) ending loaded may other =
-    (funcs, every, loaded, (may.1.0, may.1.1, sym (ap (λ (p : Product). p.due) may.1.2) ∙ may.2))
+ends_so words held (task.Run funcs options) ending loaded may other =
+    (funcs, options, loaded, (may.1.0, may.1.1, sym (ap (λ (p : Product). p.due) may.1.2) ∙ may.2))
 ends_so words held (task.Fold list) ending loaded may other = absurd (other (sym (ap (λ (p : Product). p.due) may.1) ∙ may.2))
 
 -- the end of work is named as its line of error says

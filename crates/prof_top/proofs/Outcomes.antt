@@ -19,6 +19,7 @@ use Rattle.prof_top.specs.declared.ending.Ending.{Ending}
 use Rattle.prof_top.specs.declared.ending.Ending.TheVariants.{Done, Memory, Trapped, BudgetSpent, ScheduleFull}
 use Rattle.prof_top.specs.declared.load.Task.{Task}
 use Rattle.prof_top.specs.declared.load.Task.TheVariants as task
+use Rattle.prof_top.specs.declared.words.RunOptions.{RunOptions}
 
 -- the status is 6, or one of a call that did nothing
 abbrev IsBefore : ℕ → Type 0
@@ -29,7 +30,7 @@ pub worked_on : (words : List (List ℕ)) (held : Option FileMap) (t : Task) (st
     → IsLoaded words held t → IsWorked t status schedules before now → HasOutcome words held status schedules before now
 worked_on words held t status schedules before now loaded (inl done) = inl (t, loaded, done)
 worked_on words held t status schedules before now loaded (inr (inl idle)) = inr (inl (inl idle.0, idle.1))
-worked_on words held (task.Run funcs every) status schedules before now loaded (inr (inr out)) = inr (inr (out.0, (loaded.0, every, loaded.1), out.1))
+worked_on words held (task.Run funcs options) status schedules before now loaded (inr (inr out)) = inr (inr (out.0, (loaded.0, options.every, loaded.1, loaded.2), out.1))
 worked_on words held (task.Fold list) status schedules before now loaded (inr (inr out)) = absurd out.1
 
 -- only out of memory changes the status once the line of error was written
@@ -67,17 +68,17 @@ outcome_with words held status number schedules before now same outcome = outcom
 -- there is no schedule, or the one of the run that the words ask for
 pub record IsRun (words : List (List ℕ)) (held : Option FileMap) (schedules : List ScheduleParts) : Type 0 where
   pub funcs : List Func
-  pub every : ℕ
-  pub loaded : IsLoaded words held (task.Run funcs every)
+  pub options : RunOptions
+  pub loaded : IsLoaded words held (task.Run funcs options)
   pub schedule : ScheduleParts
-  pub is : IsRunSchedule funcs every schedule
+  pub is : IsRunSchedule funcs options schedule
   pub one : schedules ≡ schedule ∷ []
 
 pub run_or_none : (words : List (List ℕ)) (held : Option FileMap) (status : ℕ) (schedules : List ScheduleParts) (before now : Outlets)
     → HasOutcome words held status schedules before now → (schedules ≡ []) ⊎ IsRun words held schedules
-run_or_none words held status schedules before now (inl (task.Run funcs every, loaded, done)) = inr (record {
+run_or_none words held status schedules before now (inl (task.Run funcs options, loaded, done)) = inr (record {
   funcs = funcs;
-  every = every;
+  options = options;
   loaded = loaded;
   schedule = done.makes.0;
   is = done.makes.1;
@@ -88,13 +89,13 @@ run_or_none words held status schedules before now (inr (inl idle)) = inl idle.1
 run_or_none words held status schedules before now (inr (inr out)) = inl out.2.none
 
 -- what holds of the schedule of a run holds of each schedule that is returned
-pub each_of : (words : List (List ℕ)) (held : Option FileMap) (schedules : List ScheduleParts) (P : List Func → ℕ → ScheduleParts → Type 0)
-    → ((funcs : List Func) (every : ℕ) (schedule : ScheduleParts) → IsRunSchedule funcs every schedule → P funcs every schedule)
-    → (schedules ≡ []) ⊎ IsRun words held schedules → AllByRecursion (λ schedule. OfRun words held (λ funcs every. P funcs every schedule)) schedules
-each_of words held schedules P holds (inl none) = subst (AllByRecursion (λ schedule. OfRun words held (λ funcs every. P funcs every schedule))) (sym none) tt
+pub each_of : (words : List (List ℕ)) (held : Option FileMap) (schedules : List ScheduleParts) (P : List Func → RunOptions → ScheduleParts → Type 0)
+    → ((funcs : List Func) (options : RunOptions) (schedule : ScheduleParts) → IsRunSchedule funcs options schedule → P funcs options schedule)
+    → (schedules ≡ []) ⊎ IsRun words held schedules → AllByRecursion (λ schedule. OfRun words held (λ funcs options. P funcs options schedule)) schedules
+each_of words held schedules P holds (inl none) = subst (AllByRecursion (λ schedule. OfRun words held (λ funcs options. P funcs options schedule))) (sym none) tt
 each_of words held schedules P holds (inr run) =
-    subst (AllByRecursion (λ schedule. OfRun words held (λ funcs every. P funcs every schedule))) (sym run.one)
-    ((run.funcs, run.every, run.loaded, holds run.funcs run.every run.schedule run.is), tt)
+    subst (AllByRecursion (λ schedule. OfRun words held (λ funcs options. P funcs options schedule))) (sym run.one)
+    ((run.funcs, run.options, run.loaded, holds run.funcs run.options run.schedule run.is), tt)
 
 pub all_legal : (words : List (List ℕ)) (held : Option FileMap) (schedules : List ScheduleParts) → (schedules ≡ []) ⊎ IsRun words held schedules → AllByRecursion IsLegalSchedule schedules
 all_legal words held schedules (inl none) = subst (AllByRecursion IsLegalSchedule) (sym none) tt
@@ -152,7 +153,7 @@ after_due due status before now is (inr (inr (inl failed))) = inr (inr (inl fail
 after_due due status before now is (inr (inr (inr same))) = subst (λ s. (s ≡ 6) ⊎ IsAfterWork s) (sym same) (due_status due is)
 
 made_due : (t : Task) (product : Product) → Makes t product → IsDueOrMemory product.due
-made_due (task.Run funcs every) product makes = subst IsDueOrMemory (sym (ap (λ p. p.due) makes.2)) (due_or_memory makes.0.entries)
+made_due (task.Run funcs options) product makes = subst IsDueOrMemory (sym (ap (λ p. p.due) makes.2)) (due_or_memory makes.0.entries)
 made_due (task.Fold list) product makes = subst IsDueOrMemory (sym (ap (λ p. p.due) makes)) (inl tt)
 
 -- the status of what was done
@@ -169,8 +170,8 @@ none_before words held status schedules before now (inr (inr out)) is = out.2.no
 -- after a run there is one
 pub one_after : (words : List (List ℕ)) (held : Option FileMap) (status : ℕ) (schedules : List ScheduleParts) (before now : Outlets)
     → HasOutcome words held status schedules before now → AsksToRun words → IsAfterWork status → length schedules ≡ 1
-one_after words held status schedules before now (inl (task.Run funcs every, loaded, done)) asks is = ap length (done.schedules_are ∙ ap (λ product. product.schedules) done.makes.2)
-one_after words held status schedules before now (inl (task.Fold list, loaded, done)) asks is = absurd (let both = sym loaded.1.spelled ∙ asks.2.spelled in cc both)
+one_after words held status schedules before now (inl (task.Run funcs options, loaded, done)) asks is = ap length (done.schedules_are ∙ ap (λ product. product.schedules) done.makes.2)
+one_after words held status schedules before now (inl (task.Fold list, loaded, done)) asks is = absurd (let both = sym loaded.1.spelled ∙ asks.3.spelled in cc both)
 one_after words held status schedules before now (inr (inl (inl six, idle))) asks is = absurd (never_six status is six)
 one_after words held status schedules before now (inr (inl (inr first, idle))) asks is = absurd (never_both status first (inr is))
 one_after words held status schedules before now (inr (inr out)) asks is = absurd (never_six status is out.0)
@@ -200,7 +201,7 @@ not_of_fold status before now (inr (inr (inr is))) (inr (inr guest)) = omega (ar
 -- where a guest came to its own end, the words ask for its run
 pub asks_to_run : (words : List (List ℕ)) (held : Option FileMap) (status : ℕ) (schedules : List ScheduleParts) (before now : Outlets)
     → HasOutcome words held status schedules before now → IsOfGuest status → AsksToRun words
-asks_to_run words held status schedules before now (inl (task.Run funcs every, loaded, done)) guest = (loaded.0, every, loaded.1)
+asks_to_run words held status schedules before now (inl (task.Run funcs options, loaded, done)) guest = (loaded.0, options.every, loaded.1, loaded.2)
 asks_to_run words held status schedules before now (inl (task.Fold list, loaded, done)) guest =
     absurd (not_of_fold status before now (subst (λ due. IsEndedSo due status before now) (ap (λ (p : Product). p.due) done.makes) done.ended) guest)
 asks_to_run words held status schedules before now (inr (inl (inl six, idle))) guest = absurd (never_six status (guest_is_after status guest) six)

@@ -25,6 +25,7 @@ use Rattle.prof_top.specs.Product.{MayBeDue, run_product}
 use Rattle.prof_top.specs.RunSchedule.{IsRunSchedule, config_of}
 use Rattle.prof_top.specs.declared.ending.Ending.{Ending}
 use Rattle.prof_top.specs.declared.load.Task.TheVariants as task
+use Rattle.prof_top.specs.declared.words.RunOptions.{RunOptions}
 use Rattle.prof_top.proofs.Endings.{due_pushed}
 use Rattle.prof_top.proofs.Handed.{none_is_part}
 
@@ -70,8 +71,8 @@ hands_out_unprinted answer due lines notes written out_faults files parts parts'
   inl refl,
 )
 
-module _ {S : Type 0} (funcs : List Func) (every : ℕ) (why : EndCause) (before now : Outlet) (i : PlainIsolate) (p : PlainProcessor S) (h : HasEnded funcs (config_of every) why before now i p) where
-  schedule_is : ¬ (why ≡ end.Memory) → IsRunSchedule funcs every i.progress.schedule
+module _ {S : Type 0} (funcs : List Func) (options : RunOptions) (why : EndCause) (before now : Outlet) (i : PlainIsolate) (p : PlainProcessor S) (h : HasEnded funcs (config_of options) why before now i p) where
+  schedule_is : ¬ (why ≡ end.Memory) → IsRunSchedule funcs options i.progress.schedule
   schedule_is other = record {
     legal = h.legal other;
     fits = h.fits other;
@@ -89,7 +90,7 @@ module _ {S : Type 0} (funcs : List Func) (every : ℕ) (why : EndCause) (before
   -- a run was done
   pub run_worked : (other : ¬ (why ≡ end.Memory)) (schedules : List ScheduleParts) (status : ℕ) (written written' : Option (List ℕ)) (out_faults out_faults' : ℕ) → schedules ≡ i.progress.schedule ∷ []
       → HandsOut (answer_of p.course.filing.delivery p.course.filing.is_spent) (due_of i.progress.schedule.entries) (i.printed.items ++ schedule_lines i.progress.schedule.entries) p.course.filing.notes status written out_faults written' out_faults'
-      → IsWorked (task.Run funcs every) status schedules (outlets before.parts before.aborts before.faults written out_faults) (outlets now.parts now.aborts now.faults written' out_faults')
+      → IsWorked (task.Run funcs options) status schedules (outlets before.parts before.aborts before.faults written out_faults) (outlets now.parts now.aborts now.faults written' out_faults')
   run_worked other schedules status written written' out_faults out_faults' one hands =
       let schedule = i.progress.schedule in
       let files = plain_files funcs schedule in
@@ -104,12 +105,12 @@ module _ {S : Type 0} (funcs : List Func) (every : ℕ) (why : EndCause) (before
         ended = out.1;
       })
 
-  pub run_due : (other : ¬ (why ≡ end.Memory)) (ending : Ending) → ending ≡ due_of i.progress.schedule.entries → MayBeDue (task.Run funcs every) ending
+  pub run_due : (other : ¬ (why ≡ end.Memory)) (ending : Ending) → ending ≡ due_of i.progress.schedule.entries → MayBeDue (task.Run funcs options) ending
   run_due other ending is = (run_product funcs i.progress.schedule, (i.progress.schedule, schedule_is other, refl), sym is)
 
   -- memory ran out in it
   pub run_cut : why ≡ end.Memory → (schedules : List ScheduleParts) (written : Option (List ℕ)) (out_faults : ℕ) → schedules ≡ []
-      → IsWorked (task.Run funcs every) 6 schedules (outlets before.parts before.aborts before.faults written out_faults) (outlets now.parts now.aborts now.faults written out_faults)
+      → IsWorked (task.Run funcs options) 6 schedules (outlets before.parts before.aborts before.faults written out_faults) (outlets now.parts now.aborts now.faults written out_faults)
   run_cut memory schedules written out_faults none = inr (inr (refl, record { none = none; parts = h.cut memory; written = refl }))
 
 -- the same of what is the same

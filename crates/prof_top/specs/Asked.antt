@@ -28,7 +28,7 @@ asked_as kind name = record { kind = kind; name = name }
 
 -- the texts that a command line asks for, in the order of its words
 abbrev pub asked : CommandLine → List Asked
-asked (Run program every) = asked_as guest_program program ∷ []
+asked (Run program every limits) = asked_as guest_program program ∷ []
 asked (Fold items) = asked_as item_list items ∷ []
 
 -- the text has a reading of this kind

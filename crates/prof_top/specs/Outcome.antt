@@ -39,7 +39,7 @@ pub record IsCut (schedules : List ScheduleParts) (before now : Outlets) : Type 
 
 -- memory ran out in the midst of this, which no fold does
 abbrev pub IsCutShort : Task → List ScheduleParts → Outlets → Outlets → Type 0
-IsCutShort (task.Run funcs every) schedules before now = IsCut schedules before now
+IsCutShort (task.Run funcs options) schedules before now = IsCut schedules before now
 IsCutShort (task.Fold list) schedules before now = ⊥
 
 -- it was done, or memory ran out before anything came out, or in a run

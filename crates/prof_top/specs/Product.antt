@@ -31,7 +31,7 @@ fold_product list = record { schedules = []; files = item_files list.base list.i
 
 -- what comes of it; of a run, by its schedule
 abbrev pub Makes : Task → Product → Type 0
-Makes (task.Run funcs every) product = (schedule : ScheduleParts) × IsRunSchedule funcs every schedule × (product ≡ run_product funcs schedule)
+Makes (task.Run funcs options) product = (schedule : ScheduleParts) × IsRunSchedule funcs options schedule × (product ≡ run_product funcs schedule)
 Makes (task.Fold list) product = product ≡ fold_product list
 
 -- what comes of it may be due to end in this way

@@ -13,7 +13,7 @@ use Rattle.prof_top.specs.declared.ending.Ending.TheVariants.{ProgramRefused, It
 -- the run that the words ask for may have a schedule by which it is due to end in this way
 abbrev pub EndsSo : List (List ℕ) → Option FileMap → Ending → Type 0
 EndsSo words held ending =
-    OfRun words held (λ funcs every. (schedule : ScheduleParts) × IsRunSchedule funcs every schedule × (due_of schedule.entries ≡ ending))
+    OfRun words held (λ funcs options. (schedule : ScheduleParts) × IsRunSchedule funcs options schedule × (due_of schedule.entries ≡ ending))
 
 -- an end that names a text names one that the words ask for; a text that is refused has its first fault at that line, with that cause; a trap, a spent budget and a full schedule are ends of the run that the words ask for
 abbrev pub IsNamed : List (List ℕ) → Option FileMap → Ending → Type 0

@@ -20,7 +20,7 @@ ghost use Rattle.prof_top.specs.Task.{IsReady, OfRun};
 use crate::ending::{Ending, report};
 use crate::fold::fold;
 use crate::load::{Task, load};
-use crate::run::{BUDGET, ENTRIES, Ran, run};
+use crate::run::{Ran, run};
 use out_stream::OutputStream;
 use prof_base::Sequence;
 use prof_outer::{Depot, Sink};
@@ -65,7 +65,7 @@ fn work<S: OutputStream, O: Sink>(alloc: Global, task: Task, stream: S, out: &mu
     ensures out_faults { O.faults out.old ≤ O.faults out.new }
 {
     match task {
-        Task::Run { program, every } => run(alloc, program, every, stream, out),
+        Task::Run { program, options } => run(alloc, program, options, stream, out),
         Task::Fold { list } => {
             let mut stream = stream;
             let ending = fold(alloc, &list, &mut stream, out);
@@ -162,10 +162,12 @@ pub(crate) fn once<D: Depot, S: OutputStream, O: Sink, E: Sink>(
 /// Does what the words of a command line say, and writes one line to `err` where the status is not
 /// 0.
 ///
-/// `run PROG EVERY` reads the program under the name PROG, and runs it under a clock that counts
-/// its steps as microseconds, with one session from the first step to the end. It takes a sample
-/// after s steps, for each s that is a multiple of EVERY, from EVERY on. It delivers the session's
-/// file to the stream, prints to `out`, and returns the run's schedule.
+/// `run PROG EVERY [BUDGET [ENTRIES]]` reads the program under the name PROG, and runs it under a
+/// clock that counts its steps as microseconds, with one session from the first step to the end. It
+/// takes a sample after s steps, for each s that is a multiple of EVERY, from EVERY on. The run ends
+/// with the guest, after BUDGET steps ([`BUDGET`](crate::BUDGET) where there is no such word), or
+/// where its schedule has ENTRIES entries ([`ENTRIES`](crate::ENTRIES) where there is no such word).
+/// It delivers the session's file to the stream, prints to `out`, and returns the run's schedule.
 ///
 /// `fold ITEMS` reads the item list under the name ITEMS, delivers the file of each session that the
 /// list ends, in the order in which they end, and prints to `out`.
@@ -211,10 +213,10 @@ pub fn cpuprof_once<D: Depot, O: Sink, E: Sink>(
     ensures stopped { IsBeforeWork result.status → result.schedules ≡ [] }
     ensures one { length result.schedules ≤ 1 }
     ensures legal { AllByRecursion IsLegalSchedule result.schedules }
-    ensures fits { AllByRecursion (λ schedule. OfRun (map string_bytes words.now) (D.held depot.old) (λ funcs every. Fits funcs schedule)) result.schedules }
-    ensures head { AllByRecursion (λ schedule. OfRun (map string_bytes words.now) (D.held depot.old) (λ funcs every. IsHead every schedule)) result.schedules }
+    ensures fits { AllByRecursion (λ schedule. OfRun (map string_bytes words.now) (D.held depot.old) (λ funcs options. Fits funcs schedule)) result.schedules }
+    ensures head { AllByRecursion (λ schedule. OfRun (map string_bytes words.now) (D.held depot.old) (λ funcs options. IsHead options schedule)) result.schedules }
     ensures clock { (result.status ≡ 6) ⊎ AllByRecursion (λ schedule. OfRun (map string_bytes words.now) (D.held depot.old)
-        (λ funcs every. IsStepClock funcs every BUDGET ENTRIES schedule.entries)) result.schedules }
+        (λ funcs options. IsStepClock funcs options.every options.budget options.entries schedule.entries)) result.schedules }
 
     // The line of error.
     ensures said { IsSaid (map string_bytes words.now) (D.held depot.old) result.status (E.written err.old) (E.written err.new) (E.faults err.old) (E.faults err.new) }

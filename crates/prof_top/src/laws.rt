@@ -1,7 +1,7 @@
 //! Facts that contracts cite. The function does nothing: its contract is the facts.
 ghost use Rattle.std.specs.Prelude.{◌≡◌};
 
-use crate::run::{BUDGET, ENTRIES};
+use crate::words::{BUDGET, ENTRIES};
 
 /// States the limits of a run that contracts cite by name.
 pub fn limits()

@@ -13,4 +13,4 @@ mod run;
 mod words;
 
 pub use call::{Outcome, cpuprof_once};
-pub use run::{BUDGET, ENTRIES};
+pub use words::{BUDGET, ENTRIES};

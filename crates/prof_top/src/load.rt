@@ -9,7 +9,7 @@ ghost use Rattle.prof_top.specs.Said.{IsNamed};
 ghost use Rattle.prof_top.specs.Task.{IsProgramRead, IsListRead, IsLoaded, IsReady};
 
 use crate::ending::Ending;
-use crate::words::{CommandLine, WordsRefused, command_line};
+use crate::words::{CommandLine, RunOptions, WordsRefused, command_line};
 use guest_program::Program;
 use guest_text::{ProgramCause, ProgramRefused, read_program};
 use item_text::{ItemList, read_items};
@@ -40,8 +40,7 @@ pub enum Task {
     /// The program is run.
     Run {
         program: Program,
-        /// Microseconds from one sample to the next.
-        every: u32,
+        options: RunOptions,
     },
     /// The files of the item list are delivered.
     Fold {
@@ -128,8 +127,12 @@ fn load_line<D: Depot>(alloc: Global, line: CommandLine, depot: &mut D) -> Resul
         CommandLine::Run {
             program: name,
             every,
+            limits,
         } => match program_under(alloc, depot, &name) {
-            Ok(program) => Ok(Task::Run { program, every }),
+            Ok(program) => Ok(Task::Run {
+                program,
+                options: RunOptions::new(every, limits),
+            }),
             Err(unread) => Err(ending_of(unread, name)),
         },
         CommandLine::Fold { items: name } => match list_under(alloc, depot, &name) {

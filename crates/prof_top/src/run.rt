@@ -1,5 +1,5 @@
 // A run: the guest on the step clock, the delivery of its file, and the text that is printed.
-ghost use Rattle.std.specs.Prelude.{◌≡◌, ◌≤◌, ◌⊎◌, ◌++◌, [], ℕ, List, IsErrOf, vec_capacity};
+ghost use Rattle.std.specs.Prelude.{◌≡◌, ◌≤◌, ◌⊎◌, ◌++◌, [], List, IsErrOf, vec_capacity};
 ghost use Rattle.guest_program.specs.declared.instr.Func.{Func};
 ghost use Rattle.prof_base.specs.Causes.{Rose};
 ghost use Rattle.processor.specs.Filing.{answer_of};
@@ -12,27 +12,23 @@ ghost use Rattle.prof_top.specs.Outcome.{IsWorked};
 ghost use Rattle.prof_top.specs.PrintedText.{schedule_lines};
 ghost use Rattle.prof_top.specs.Product.{MayBeDue};
 ghost use Rattle.prof_top.specs.RunSchedule.{config_of};
+ghost use Rattle.prof_top.specs.Task.{AreOptions};
 ghost use Rattle.prof_top.specs.declared.load.Task.TheVariants as task;
 
 use crate::due::due_of;
 use crate::ending::Ending;
 use crate::printing::run_lines;
 use crate::printout::print_out;
+use crate::words::RunOptions;
 use clock_run::{ClockRun, run_on_clock};
 use guest_program::Program;
 use isolate_turns::IsoConfig;
 use one_thread::OneThread;
 use out_stream::{OutputStream, Undelivered};
-use prof_base::{MAX_INTERVAL, Sequence};
+use prof_base::Sequence;
 use prof_outer::Sink;
 use run_schedule::{DEFAULT_RING, EndCause, Schedule};
 use std::alloc::Global;
-
-/// The greatest number of steps of a run.
-pub const BUDGET: u64 = 10_000_000;
-
-/// The greatest number of entries of a schedule.
-pub const ENTRIES: u32 = 1_048_576;
 
 /// The result of a call: how it ended, the schedules of the runs that took place, and the stream that
 /// it was given.
@@ -85,14 +81,14 @@ fn report_run<S: OutputStream, O: Sink>(
     ensures ending { IsWorkEnding result.ending }
     ensures stream { result.stream ≡ run.thread.processor.stream }
     ensures out_faults { O.faults out.old ≤ O.faults out.new }
-    ensures due { (funcs : List Func) (every : ℕ) (before now : Outlet) → HasEnded funcs (config_of every) run.why before now run.thread.isolate run.thread.processor
-        → IsDue result.ending → MayBeDue (task.Run funcs every) result.ending }
-    ensures cannot_write { (funcs : List Func) (every : ℕ) (before now : Outlet) → HasEnded funcs (config_of every) run.why before now run.thread.isolate run.thread.processor
+    ensures due { (funcs : List Func) (options : RunOptions) (before now : Outlet) → HasEnded funcs (config_of options) run.why before now run.thread.isolate run.thread.processor
+        → IsDue result.ending → MayBeDue (task.Run funcs options) result.ending }
+    ensures cannot_write { (funcs : List Func) (options : RunOptions) (before now : Outlet) → HasEnded funcs (config_of options) run.why before now run.thread.isolate run.thread.processor
         → result.ending ≡ Ending.CannotWrite → Rose before.faults now.faults ⊎ Rose (O.faults out.old) (O.faults out.new) }
-    ensures aborted { (funcs : List Func) (every : ℕ) (before now : Outlet) → HasEnded funcs (config_of every) run.why before now run.thread.isolate run.thread.processor
+    ensures aborted { (funcs : List Func) (options : RunOptions) (before now : Outlet) → HasEnded funcs (config_of options) run.why before now run.thread.isolate run.thread.processor
         → result.ending ≡ Ending.Aborted → Rose before.aborts now.aborts }
-    ensures worked { (funcs : List Func) (every : ℕ) (before now : Outlet) → HasEnded funcs (config_of every) run.why before now run.thread.isolate run.thread.processor
-        → IsWorked (task.Run funcs every) (status_of result.ending) result.schedules
+    ensures worked { (funcs : List Func) (options : RunOptions) (before now : Outlet) → HasEnded funcs (config_of options) run.why before now run.thread.isolate run.thread.processor
+        → IsWorked (task.Run funcs options) (status_of result.ending) result.schedules
         (outlets before.parts before.aborts before.faults (O.written out.old) (O.faults out.old)) (outlets now.parts now.aborts now.faults (O.written out.new) (O.faults out.new)) }
 {
     let ClockRun { thread, why } = run;
@@ -115,25 +111,24 @@ fn report_run<S: OutputStream, O: Sink>(
     }
 }
 
-/// Runs the program under the step clock, with one session from the start to the end that samples
-/// every `every` microseconds. Delivers its file, and then prints to `out`.
+/// Runs the program under the step clock, within the limits of the options, with one session from the
+/// start to the end that samples at their interval. Delivers its file, and then prints to `out`.
 pub(crate) fn run<S: OutputStream, O: Sink>(
     alloc: Global,
     program: Program,
-    every: u32,
+    options: RunOptions,
     stream: S,
     out: &mut O,
 ) -> Ran<S>
-    requires low { 1 ≤ every }
-    requires high { every ≤ MAX_INTERVAL }
+    requires { AreOptions options }
     // How it may end, and the cause of each.
     ensures ending { IsWorkEnding result.ending }
-    ensures due { IsDue result.ending → MayBeDue (task.Run program every) result.ending }
+    ensures due { IsDue result.ending → MayBeDue (task.Run program options) result.ending }
     ensures cannot_write { result.ending ≡ Ending.CannotWrite → Rose (S.stream_faults stream) (S.stream_faults result.stream) ⊎ Rose (O.faults out.old) (O.faults out.new) }
     ensures aborted { result.ending ≡ Ending.Aborted → Rose (S.aborts stream) (S.aborts result.stream) }
 
     // The schedule of the run, and what has come out of it.
-    ensures worked { IsWorked (task.Run program every) (status_of result.ending) result.schedules
+    ensures worked { IsWorked (task.Run program options) (status_of result.ending) result.schedules
         (outlets (S.parts stream) (S.aborts stream) (S.stream_faults stream) (O.written out.old) (O.faults out.old))
         (outlets (S.parts result.stream) (S.aborts result.stream) (S.stream_faults result.stream) (O.written out.new) (O.faults out.new)) }
 
@@ -144,10 +139,10 @@ pub(crate) fn run<S: OutputStream, O: Sink>(
     ensures out_faults { O.faults out.old ≤ O.faults out.new }
 {
     let config = IsoConfig {
-        base: every,
+        base: options.every,
         ring: DEFAULT_RING,
-        budget: BUDGET,
-        limit: ENTRIES,
+        budget: options.budget,
+        limit: options.entries,
     };
     let Ok(schedules) = Vec::with_capacity(alloc, 1) else {
         return Ran {

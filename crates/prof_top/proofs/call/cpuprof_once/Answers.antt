@@ -7,7 +7,6 @@ use Rattle.prof_top.proofs.call.cpuprof_once.Goals as goal
 use Rattle.prof_top.specs.Ending.{status_of}
 use Rattle.prof_top.specs.RunSchedule.{IsHead}
 use Rattle.step_clock.specs.StepClock.{IsStepClock}
-use Rattle.prof_top.specs.declared.run.TheConstants.{BUDGET, ENTRIES}
 
 pub returns-clause-readable : goal.returns-clause-readable
 returns-clause-readable g c =
@@ -37,18 +36,18 @@ returns-clause-legal g c =
 
 pub returns-clause-fits : goal.returns-clause-fits
 returns-clause-fits g c =
-    each_of (map string_bytes c.args.words.now) (g.D.Depot.held c.args.depot.now) c.once-ran.result.schedules (λ funcs every schedule. Fits funcs schedule) (λ funcs every schedule is. is.fits)
+    each_of (map string_bytes c.args.words.now) (g.D.Depot.held c.args.depot.now) c.once-ran.result.schedules (λ funcs options schedule. Fits funcs schedule) (λ funcs options schedule is. is.fits)
     (run_or_none (map string_bytes c.args.words.now) (g.D.Depot.held c.args.depot.now) c.status.result c.once-ran.result.schedules _ _ (returns-clause-outcome g c))
 
 pub returns-clause-head : goal.returns-clause-head
 returns-clause-head g c =
-    each_of (map string_bytes c.args.words.now) (g.D.Depot.held c.args.depot.now) c.once-ran.result.schedules (λ funcs every schedule. IsHead every schedule) (λ funcs every schedule is. is.head)
+    each_of (map string_bytes c.args.words.now) (g.D.Depot.held c.args.depot.now) c.once-ran.result.schedules (λ funcs options schedule. IsHead options schedule) (λ funcs options schedule is. is.head)
     (run_or_none (map string_bytes c.args.words.now) (g.D.Depot.held c.args.depot.now) c.status.result c.once-ran.result.schedules _ _ (returns-clause-outcome g c))
 
 pub returns-clause-clock : goal.returns-clause-clock
 returns-clause-clock g c =
     inr (each_of (map string_bytes c.args.words.now) (g.D.Depot.held c.args.depot.now) c.once-ran.result.schedules
-    (λ funcs every schedule. IsStepClock funcs every BUDGET ENTRIES schedule.entries) (λ funcs every schedule is. is.clock)
+    (λ funcs options schedule. IsStepClock funcs options.every options.budget options.entries schedule.entries) (λ funcs options schedule is. is.clock)
     (run_or_none (map string_bytes c.args.words.now) (g.D.Depot.held c.args.depot.now) c.status.result c.once-ran.result.schedules _ _ (returns-clause-outcome g c)))
 
 pub returns-clause-trapped : goal.returns-clause-trapped

@@ -8,12 +8,12 @@ use Rattle.prof_top.specs.Said.{IsNamed}
 pub returns-in-Err-clause-named : goal.returns-in-Err-clause-named
 returns-in-Err-clause-named g c words means =
     subst (IsNamed words (g.D.Depot.held c.args.depot.now)) (sym c.ending_of.ensures)
-    (named_of words (g.D.Depot.held c.args.depot.now) c.args.line guest_program c.in-Run.name _ _ _ _ c.in-Err.unread means (run_asks c.args.line c.in-Run.name c.in-Run.every c.in-Run.is) c.in-Err.ensures.err)
+    (named_of words (g.D.Depot.held c.args.depot.now) c.args.line guest_program c.in-Run.name _ _ _ _ c.in-Err.unread means (run_asks c.args.line c.in-Run.name c.in-Run.every c.in-Run.limits c.in-Run.is) c.in-Err.ensures.err)
 
 pub returns-in-Err-clause-err : goal.returns-in-Err-clause-err
 returns-in-Err-clause-err g c words means =
     subst (IsStoppedAs words (g.D.Depot.held c.args.depot.now) _ _ _ _) (sym c.ending_of.ensures)
-    (stopped_of words (g.D.Depot.held c.args.depot.now) c.args.line guest_program c.in-Run.name _ _ _ _ c.in-Err.unread means (run_asks c.args.line c.in-Run.name c.in-Run.every c.in-Run.is) c.in-Err.ensures.err)
+    (stopped_of words (g.D.Depot.held c.args.depot.now) c.args.line guest_program c.in-Run.name _ _ _ _ c.in-Err.unread means (run_asks c.args.line c.in-Run.name c.in-Run.every c.in-Run.limits c.in-Run.is) c.in-Err.ensures.err)
 
 pub returns-in-Err-list_under-clause-named : goal.returns-in-Err-list_under-clause-named
 returns-in-Err-list_under-clause-named g c words means =
