@@ -10,7 +10,7 @@ use Rattle.prof_outer.specs.Files.{file_at}
 use Rattle.prof_outer.specs.Stored.{files_of}
 use Rattle.prof_outer.specs.declared.depot.Stored.{Stored}
 
-is_same_name : List ℕ → List ℕ → Bool
+unfoldable pub is_same_name : List ℕ → List ℕ → Bool
 is_same_name = eq_by_cmp (slice_cmp nat_cmp)
 
 same_itself : (name : List ℕ) → is_same_name name name ≡ true
@@ -26,7 +26,7 @@ same_other name other differ =
       | Greater ↦ λ e. refl
     ] refl
 
-file_at-cons : (file : Stored) (files : List Stored) (name : List ℕ) → file_at (files_of (file ∷ files)) name ≡ cond (is_same_name name file.name) (Some file.bytes.items) (file_at (files_of files) name)
+pub file_at-cons : (file : Stored) (files : List Stored) (name : List ℕ) → file_at (files_of (file ∷ files)) name ≡ cond (is_same_name name file.name) (Some file.bytes.items) (file_at (files_of files) name)
 unfolding is_same_name
 file_at-cons file files name = get-insert nat_list_cmp_total (files_of files) file.name file.bytes.items name
 

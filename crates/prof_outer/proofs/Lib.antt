@@ -1,2 +1,4 @@
 pub mod Finding
+pub mod Naming
 pub mod Prefixes
+pub mod Removing

@@ -7,10 +7,13 @@
 #![tactic(auto)]
 
 mod depot;
+mod draft;
+mod failing;
 pub mod limits;
 mod real;
 mod sink;
 
-pub use depot::{Depot, GetFault, MemoryDepot, Stored, SureDepot};
+pub use depot::{Depot, GetFault, MemoryDepot, PutFault, Stored, SureDepot};
+pub use failing::{FailingPut, Left};
 pub use real::{Folder, MAX_FILE, WriterSink};
 pub use sink::{MemorySink, Sink, SinkFault, SureSink};

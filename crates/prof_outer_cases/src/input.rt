@@ -1,6 +1,6 @@
 // The lines of a case.
 use prof_base::Text;
-use prof_outer::Stored;
+use prof_outer::{FailingPut, Left, Stored};
 use std::alloc::Global;
 use std::io;
 use std::io::ErrorKind;
@@ -39,4 +39,35 @@ pub(crate) fn failing(alloc: Global, lines: &str) -> Result<Vec<u64>, io::Error>
         }
     }
     Ok(calls)
+}
+
+fn left_of(word: &str) -> Option<Left> {
+    match word {
+        "old" => Some(Left::OldBytes),
+        "new" => Some(Left::NewBytes),
+        "nothing" => Some(Left::Nothing),
+        _ => None,
+    }
+}
+
+fn failing_put_of(words: &str) -> Option<FailingPut> {
+    let (call, word) = words.split_once(' ')?;
+    let left = left_of(word)?;
+    match call.parse::<u64>() {
+        Ok(call) => Some(FailingPut { call, left }),
+        Err(_) => None,
+    }
+}
+
+// Reads the calls of the lines `fail_put CALL LEFT`, where LEFT is `old`, `new` or `nothing`.
+pub(crate) fn failing_puts(alloc: Global, lines: &str) -> Result<Vec<FailingPut>, io::Error> {
+    let mut puts = Vec::new(alloc);
+    for line in lines.lines() {
+        if let Some(words) = line.strip_prefix("fail_put ") {
+            if let Some(put) = failing_put_of(words) {
+                puts.push(put)?;
+            }
+        }
+    }
+    Ok(puts)
 }
