@@ -1,1 +1,15 @@
+pub mod CanonicalSchedules
+pub mod CanonicalScripts
+pub mod LegalScripts
 pub mod RecordWords
+pub mod ScheduleDrafts
+pub mod ScheduleForms
+pub mod ScheduleOrder
+pub mod ScheduleRanges
+pub mod ScheduleRules
+pub mod ScheduleSessions
+pub mod ScheduleSpelling
+pub mod ScheduleTexts
+pub mod ScriptForms
+pub mod ScriptSessions
+pub mod Scripts

@@ -1,2 +1,16 @@
 pub mod Refusals
+pub mod ScheduleDraft
+pub mod ScheduleForms
+pub mod ScheduleLaws
+pub mod ScheduleLine
+pub mod ScheduleRules
+pub mod ScheduleSessions
+pub mod ScheduleSpelling
+pub mod ScheduleTexts
+pub mod ScriptDraft
+pub mod ScriptForms
+pub mod ScriptLaws
+pub mod ScriptLine
+pub mod ScriptRules
+pub mod Scripts
 pub mod Words
