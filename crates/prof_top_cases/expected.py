@@ -14,6 +14,7 @@ from items import Refused, files_of, read_items
 from programs import read_program, run_program
 
 SHOWN, SHORT = 1000, 8
+SCHEDULE = "cpuprof-1.schedule"  # the name of the file that has the text of a run's schedule
 RANGES = [(1, 10**9), (1, 10**8), (2, 2**20)]  # of the numbers of `run`: the interval, the budget and the limit of entries
 DEFAULTS = (10**7, 2**20)  # where there are no words for the last two
 
@@ -109,7 +110,7 @@ def due_of(cause, end):
 
 def run(name, text, every, budget, limit):
     """Returns the files of `run`, each with its session, what is printed before the lines of the files, the
-    schedule, and the fault that is due."""
+    schedule as it is printed and as its text, and the fault that is due."""
     try:
         funcs = read_program(text)
     except Refused as at:
@@ -120,17 +121,19 @@ def run(name, text, every, budget, limit):
     if len(entries) <= SHORT:
         schedule += entries
     printed = f"{guest}end {cause} {end}\nsampled {len(samples)} dropped 0\n"
-    return [(1, file)], printed, schedule, due_of(cause, end)
+    written = [f"schedule 1 {every} 256 {budget} {limit}", f"0 0 start 0 {every} leaf all"]
+    written += [f"{s} {s} sampled" for s in samples] + [f"{end} {end} end {cause}"]
+    return [(1, file)], printed, schedule, "".join(line + "\n" for line in written), due_of(cause, end)
 
 
 def fold(text):
-    """Returns the same of `fold`, which has no schedule, and of which nothing is due."""
+    """Returns the same of `fold`, which has no schedule and no text of one, and of which nothing is due."""
     try:
         base, items = read_items(text)
     except Refused as at:
         raise Fault(10, f"items {at}")
     ticks = sum(name == "tick" for name, _ in items)
-    return files_of(base, items), f"items {len(items) - ticks} {ticks}\n", [], None
+    return files_of(base, items), f"items {len(items) - ticks} {ticks}\n", [], None, None
 
 
 def work(case):
@@ -146,11 +149,35 @@ def work(case):
     return run(name, case["text"], *numbers) if numbers else fold(case["text"])
 
 
+def put(case, depot, written):
+    """Puts the text of a schedule into the depot, if there is one, and returns whether that failed."""
+    if written is None:
+        return False
+    fails = case.get("put-fails") == "1"  # A call of another number is never made.
+    left = case.get("put-leaves", "old") if fails else "new"
+    if left == "new":
+        depot[SCHEDULE] = written
+    elif left == "nothing":
+        depot.pop(SCHEDULE, None)
+    return fails
+
+
+def line_of_put(depot):
+    """Returns what is printed of the file that the depot has under the schedule's name."""
+    text = depot.get(SCHEDULE)
+    if text is None:
+        return "put nothing"
+    return f"put {len(text)} bytes, {hash_of(text):016x}" if len(text) > SHOWN else f"put {json.dumps(text)}"
+
+
 def answer(case):
     status, error, parts, printed, schedule = 0, "", "", "", []
+    depot = {SCHEDULE: case["old"]} if "old" in case else {}
+    depot[case["name"]] = case["text"]
     try:
-        files, printed, schedule, due = work(case)
+        files, printed, schedule, written, due = work(case)
         parts, whole, how = delivered(case, files)
+        put_fails = put(case, depot, written)
         printed += "".join(f"file {session} {len(text)}\n" for session, text in files[:whole])
         out_fails = case.get("out-fails") == "1"
         printed = half_if(out_fails, printed)
@@ -160,13 +187,13 @@ def answer(case):
             raise Fault(5, "cannot write")
         if due:
             raise due
-        if out_fails:
+        if put_fails or out_fails:
             raise Fault(5, "cannot write")
     except Fault as fault:
         status, error = fault.args
         error = half_if(case.get("err-fails") == "1", f"cpuprof: {error}\n")
     head = [f"status {status}", f"chunks of {case['chunk']}", f"out {json.dumps(printed)}", f"err {json.dumps(error)}"]
-    return f"% {case['title']}\n" + parts + "\n".join(head + schedule) + "\n"
+    return f"% {case['title']}\n" + parts + "\n".join(head + [line_of_put(depot)] + schedule) + "\n"
 
 
 def main():

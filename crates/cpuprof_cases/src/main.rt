@@ -7,11 +7,12 @@ use cpuprof_program::run_words;
 use std::alloc::Global;
 use std::fs;
 
-/// The names of the files to look for: the first stream's parts, and another stream's.
-const NAMES: [&str; 3] = [
+/// The names of the files to look for: the first stream's parts, another stream's, and the schedule.
+const NAMES: [&str; 4] = [
     "cpuprof-1-1.cpuprofile",
     "cpuprof-1-2.cpuprofile",
     "cpuprof-2-1.cpuprofile",
+    "cpuprof-1.schedule",
 ];
 
 fn words_of(alloc: Global, line: &str) -> Result<Vec<String>> {

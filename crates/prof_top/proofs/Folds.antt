@@ -14,7 +14,8 @@ use Rattle.item_text.specs.declared.items.ItemList.{ItemList}
 use Rattle.prof_top.specs.HandedOut.{Outlets, IsHandedOut, IsEndedSo, IsDelivered}
 use Rattle.prof_top.specs.Outcome.{IsDone}
 use Rattle.prof_top.specs.PrintedText.{file_line, items_line}
-use Rattle.prof_top.specs.Product.{fold_product}
+use Rattle.prof_top.specs.Product.{MayBeDue, fold_product}
+use Rattle.prof_top.specs.declared.ending.Ending.{Ending}
 use Rattle.prof_top.specs.declared.ending.Ending.TheVariants.{Done}
 use Rattle.prof_top.specs.declared.load.Task.TheVariants as task
 
@@ -37,3 +38,7 @@ fold_done list items schedules status lines before now same none is out = record
       (subst (λ l. IsHandedOut (item_files list.base items) (λ files. l ++ flat_map file_line files) status before now) is out.0);
   ended = out.1;
 }
+
+-- a fold is due to be done
+pub fold_due : (list : ItemList) (ending : Ending) → ending ≡ Done → MayBeDue (task.Fold list) ending
+fold_due list ending is = (fold_product list, refl, sym is)

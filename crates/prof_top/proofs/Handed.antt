@@ -25,7 +25,7 @@ six_where_unwritten (Err cut.Failed) due = refl
 six_where_unwritten (Err cut.Memory) due = refl
 
 -- where the work was due to be done, it is not once `out` failed
-not_zero_unwritten : (due : Ending) → status_of (where_done due CannotWrite) ≡ 0 → ⊥
+pub not_zero_unwritten : (due : Ending) → status_of (where_done due CannotWrite) ≡ 0 → ⊥
 not_zero_unwritten Done done = absurd (omega (arith, done))
 not_zero_unwritten due done = absurd (omega (arith, done))
 
@@ -94,7 +94,7 @@ order_of (Err cut.Memory) due written files number faults faults' all failed fiv
 
 -- where the files were delivered and `out` failed
 ended_unwritten : (due : Ending) (before now : Outlets) → Rose before.out_faults now.out_faults → IsEndedSo due (status_of (where_done due CannotWrite)) before now
-ended_unwritten Done before now failed = inr (inr (inl (refl, inr (refl, failed))))
+ended_unwritten Done before now failed = inr (inr (inl (refl, inr (refl, inl failed))))
 ended_unwritten due before now failed = inr (inr (inr refl))
 
 -- the status follows from the ending that was due
@@ -195,8 +195,8 @@ lines_written files number lines notes (Ok u) due written old new faults faults'
 
 handed_so : (lines : List ℕ) (notes : List FileNote) (answer : Result (Unit {0}) Undelivered) (due : Ending) (written : Result (Unit {0}) SinkFault) (old new : Option (List ℕ)) (out_faults out_faults' : ℕ)
     → Writes answer written (lines ++ flat_map note_line notes) old new out_faults out_faults'
-    → HandsOut answer due lines notes (status_of (work_ending answer due written)) old out_faults new out_faults'
-handed_so lines notes answer due written old new out_faults out_faults' writes files parts parts' aborts aborts' faults faults' is =
+    → (write_faults write_faults' : ℕ) → HandsOut answer due lines notes (status_of (work_ending answer due written)) old out_faults write_faults new out_faults' write_faults'
+handed_so lines notes answer due written old new out_faults out_faults' writes write_faults write_faults' files parts parts' aborts aborts' faults faults' is =
     let d = is.delivers in
     let has = lines_written files d.number lines notes answer due written old new out_faults out_faults' d.notes_are writes in (
       record {
@@ -208,15 +208,16 @@ handed_so lines notes answer due written old new out_faults out_faults' writes f
         printed = has.printed;
         printed_done = has.done;
       },
-      ended_so answer due written (outlets parts aborts faults old out_faults) (outlets parts' aborts' faults' new out_faults') is.aborted is.failed writes.failed,
+      ended_so answer due written (outlets parts aborts faults old out_faults write_faults) (outlets parts' aborts' faults' new out_faults' write_faults') is.aborted is.failed writes.failed,
     )
 
 -- what has come out of a command that ends in this way
 pub handed_out : (lines : List ℕ) (notes : List FileNote) (ending : Ending) (answer : Result (Unit {0}) Undelivered) (due : Ending) (written : Result (Unit {0}) SinkFault) (old new : Option (List ℕ)) (out_faults out_faults' : ℕ)
     → ending ≡ work_ending answer due written → Writes answer written (lines ++ flat_map note_line notes) old new out_faults out_faults'
-    → HandsOut answer due lines notes (status_of ending) old out_faults new out_faults'
-handed_out lines notes ending answer due written old new out_faults out_faults' ends writes =
-    subst (λ e. HandsOut answer due lines notes (status_of e) old out_faults new out_faults') (sym ends) (handed_so lines notes answer due written old new out_faults out_faults' writes)
+    → (write_faults write_faults' : ℕ) → HandsOut answer due lines notes (status_of ending) old out_faults write_faults new out_faults' write_faults'
+handed_out lines notes ending answer due written old new out_faults out_faults' ends writes write_faults write_faults' =
+    subst (λ e. HandsOut answer due lines notes (status_of e) old out_faults write_faults new out_faults' write_faults') (sym ends)
+    (handed_so lines notes answer due written old new out_faults out_faults' writes write_faults write_faults')
 
 -- where memory runs out for the line of error, what has come out stays the same
 pub handed_at_last : (files : List SessionFile) (text : List SessionFile → List ℕ) (status last : ℕ) (before now : Outlets) → (last ≡ status) ⊎ (last ≡ 6)

@@ -5,6 +5,7 @@ mod Lines
 mod TicksAndEvents
 mod Endings
 mod Handed
+mod Puts
 mod Saying
 mod Named
 mod Ends

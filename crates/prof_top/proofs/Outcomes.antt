@@ -3,6 +3,7 @@ use Rattle.std.proofs.Common.{◌≡◌, ◌⊎◌, inl, inr, ℕ, ◌≤◌, Li
 use Rattle.std.specs.Prelude.{Option}
 use Rattle.std.specs.List.{AllByRecursion}
 use Rattle.guest_program.specs.declared.instr.Func.{Func}
+use Rattle.out_stream.specs.Parts.{Parts}
 use Rattle.prof_outer.specs.Files.{FileMap}
 use Rattle.run_schedule.specs.Schedule.{IsLegalSchedule}
 use Rattle.run_schedule.specs.ScheduleParts.{ScheduleParts}
@@ -10,7 +11,7 @@ use Rattle.prof_top.proofs.Endings.{IsDueOrMemory, due_or_memory}
 use Rattle.prof_top.proofs.Handed.{handed_at_last}
 use Rattle.prof_top.specs.Command.{AsksToRun}
 use Rattle.prof_top.specs.Ending.{status_of}
-use Rattle.prof_top.specs.HandedOut.{Outlets, IsEndedSo}
+use Rattle.prof_top.specs.HandedOut.{Outlets, outlets, IsEndedSo}
 use Rattle.prof_top.specs.Outcome.{IsAfterWork, IsBeforeWork, IsDone, IsWorked, HasOutcome}
 use Rattle.prof_top.specs.Product.{Product, Makes}
 use Rattle.prof_top.specs.RunSchedule.{IsRunSchedule}
@@ -32,6 +33,13 @@ worked_on words held t status schedules before now loaded (inl done) = inl (t, l
 worked_on words held t status schedules before now loaded (inr (inl idle)) = inr (inl (inl idle.0, idle.1))
 worked_on words held (task.Run funcs options) status schedules before now loaded (inr (inr out)) = inr (inr (out.0, (loaded.0, options.every, loaded.1, loaded.2), out.1))
 worked_on words held (task.Fold list) status schedules before now loaded (inr (inr out)) = absurd out.1
+
+-- the same outcome where no write to the depot had failed since an earlier moment
+pub outcome_from : (words : List (List ℕ)) (held : Option FileMap) (status : ℕ) (schedules : List ScheduleParts) (parts : Option Parts) (aborts faults : ℕ) (written : Option (List ℕ)) (out_faults write_faults first : ℕ) (now : Outlets)
+    → first ≡ write_faults → HasOutcome words held status schedules (outlets parts aborts faults written out_faults first) now
+    → HasOutcome words held status schedules (outlets parts aborts faults written out_faults write_faults) now
+outcome_from words held status schedules parts aborts faults written out_faults write_faults first now same outcome =
+    subst (λ (n : ℕ). HasOutcome words held status schedules (outlets parts aborts faults written out_faults n) now) same outcome
 
 -- only out of memory changes the status once the line of error was written
 pub last_status : (ending last : Ending) → (last ≡ ending) ⊎ (last ≡ Memory) → (status_of last ≡ status_of ending) ⊎ (status_of last ≡ 6)

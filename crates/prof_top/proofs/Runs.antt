@@ -56,9 +56,9 @@ failed_is delivery.Aborted spent is = absurd (cc is)
 failed_is delivery.Failed spent is = refl
 
 -- files were delivered, and nothing was printed for lack of memory
-pub hands_out_unprinted : (answer : Result (Unit {0}) Undelivered) (due : Ending) (lines : List ℕ) (notes : List FileNote) (written : Option (List ℕ)) (out_faults : ℕ)
-    → HandsOut answer due lines notes 6 written out_faults written out_faults
-hands_out_unprinted answer due lines notes written out_faults files parts parts' aborts aborts' faults faults' d = (
+pub hands_out_unprinted : (answer : Result (Unit {0}) Undelivered) (due : Ending) (lines : List ℕ) (notes : List FileNote) (written : Option (List ℕ)) (out_faults write_faults write_faults' : ℕ)
+    → HandsOut answer due lines notes 6 written out_faults write_faults written out_faults write_faults'
+hands_out_unprinted answer due lines notes written out_faults write_faults write_faults' files parts parts' aborts aborts' faults faults' d = (
   record {
     delivered = d.delivers.number;
     parts = d.delivers.parts;
@@ -88,14 +88,15 @@ module _ {S : Type 0} (funcs : List Func) (options : RunOptions) (why : EndCause
   }
 
   -- a run was done
-  pub run_worked : (other : ¬ (why ≡ end.Memory)) (schedules : List ScheduleParts) (status : ℕ) (written written' : Option (List ℕ)) (out_faults out_faults' : ℕ) → schedules ≡ i.progress.schedule ∷ []
-      → HandsOut (answer_of p.course.filing.delivery p.course.filing.is_spent) (due_of i.progress.schedule.entries) (i.printed.items ++ schedule_lines i.progress.schedule.entries) p.course.filing.notes status written out_faults written' out_faults'
-      → IsWorked (task.Run funcs options) status schedules (outlets before.parts before.aborts before.faults written out_faults) (outlets now.parts now.aborts now.faults written' out_faults')
-  run_worked other schedules status written written' out_faults out_faults' one hands =
+  pub run_worked : (other : ¬ (why ≡ end.Memory)) (schedules : List ScheduleParts) (status : ℕ) (written written' : Option (List ℕ)) (out_faults out_faults' write_faults write_faults' : ℕ) → schedules ≡ i.progress.schedule ∷ []
+      → HandsOut (answer_of p.course.filing.delivery p.course.filing.is_spent) (due_of i.progress.schedule.entries) (i.printed.items ++ schedule_lines i.progress.schedule.entries) p.course.filing.notes status written out_faults write_faults written' out_faults' write_faults'
+      → IsWorked (task.Run funcs options) status schedules (outlets before.parts before.aborts before.faults written out_faults write_faults)
+      (outlets now.parts now.aborts now.faults written' out_faults' write_faults')
+  run_worked other schedules status written written' out_faults out_faults' write_faults write_faults' one hands =
       let schedule = i.progress.schedule in
       let files = plain_files funcs schedule in
-      let from = outlets before.parts before.aborts before.faults written out_faults in
-      let to = outlets now.parts now.aborts now.faults written' out_faults' in
+      let from = outlets before.parts before.aborts before.faults written out_faults write_faults in
+      let to = outlets now.parts now.aborts now.faults written' out_faults' write_faults' in
       let out = hands files before.parts now.parts before.aborts now.aborts before.faults now.faults (delivered_is other) in
       inl (record {
         product = run_product funcs schedule;
@@ -109,15 +110,17 @@ module _ {S : Type 0} (funcs : List Func) (options : RunOptions) (why : EndCause
   run_due other ending is = (run_product funcs i.progress.schedule, (i.progress.schedule, schedule_is other, refl), sym is)
 
   -- memory ran out in it
-  pub run_cut : why ≡ end.Memory → (schedules : List ScheduleParts) (written : Option (List ℕ)) (out_faults : ℕ) → schedules ≡ []
-      → IsWorked (task.Run funcs options) 6 schedules (outlets before.parts before.aborts before.faults written out_faults) (outlets now.parts now.aborts now.faults written out_faults)
-  run_cut memory schedules written out_faults none = inr (inr (refl, record { none = none; parts = h.cut memory; written = refl }))
+  pub run_cut : why ≡ end.Memory → (schedules : List ScheduleParts) (written : Option (List ℕ)) (out_faults write_faults write_faults' : ℕ) → schedules ≡ []
+      → IsWorked (task.Run funcs options) 6 schedules (outlets before.parts before.aborts before.faults written out_faults write_faults)
+      (outlets now.parts now.aborts now.faults written out_faults write_faults')
+  run_cut memory schedules written out_faults write_faults write_faults' none = inr (inr (refl, record { none = none; parts = h.cut memory; written = refl }))
 
 -- the same of what is the same
-pub hands_out_as : (answer answer' : Result (Unit {0}) Undelivered) (due due' : Ending) (lines lines' : List ℕ) (notes notes' : List FileNote) (status : ℕ) (written written' : Option (List ℕ)) (faults faults' : ℕ)
-    → answer ≡ answer' → due ≡ due' → lines ≡ lines' → notes ≡ notes' → HandsOut answer due lines notes status written faults written' faults' → HandsOut answer' due' lines' notes' status written faults written' faults'
-hands_out_as answer answer' due due' lines lines' notes notes' status written written' faults faults' answers dues lines_are notes_are hands =
-    subst (λ (a : Result (Unit {0}) Undelivered). HandsOut a due' lines' notes' status written faults written' faults') answers
-    (subst (λ (d : Ending). HandsOut answer d lines' notes' status written faults written' faults') dues
-    (subst (λ (l : List ℕ). HandsOut answer due l notes' status written faults written' faults') lines_are
-    (subst (λ (n : List FileNote). HandsOut answer due lines n status written faults written' faults') notes_are hands)))
+pub hands_out_as : (answer answer' : Result (Unit {0}) Undelivered) (due due' : Ending) (lines lines' : List ℕ) (notes notes' : List FileNote) (status : ℕ) (written written' : Option (List ℕ)) (faults faults' puts puts' : ℕ)
+    → answer ≡ answer' → due ≡ due' → lines ≡ lines' → notes ≡ notes' → HandsOut answer due lines notes status written faults puts written' faults' puts'
+    → HandsOut answer' due' lines' notes' status written faults puts written' faults' puts'
+hands_out_as answer answer' due due' lines lines' notes notes' status written written' faults faults' puts puts' answers dues lines_are notes_are hands =
+    subst (λ (a : Result (Unit {0}) Undelivered). HandsOut a due' lines' notes' status written faults puts written' faults' puts') answers
+    (subst (λ (d : Ending). HandsOut answer d lines' notes' status written faults puts written' faults' puts') dues
+    (subst (λ (l : List ℕ). HandsOut answer due l notes' status written faults puts written' faults' puts') lines_are
+    (subst (λ (n : List FileNote). HandsOut answer due lines n status written faults puts written' faults' puts') notes_are hands)))

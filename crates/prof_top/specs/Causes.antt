@@ -19,10 +19,11 @@ pub record Outside : Type 0 where
   pub aborts : ℕ
   pub stream_faults : ℕ
   pub out_faults : ℕ
+  pub write_faults : ℕ
 
 -- an `Outside` from its parts
-abbrev pub outside : Option FileMap → ℕ → ℕ → ℕ → ℕ → ℕ → Outside
-outside held misses read_faults aborts stream_faults out_faults =
+abbrev pub outside : Option FileMap → ℕ → ℕ → ℕ → ℕ → ℕ → ℕ → Outside
+outside held misses read_faults aborts stream_faults out_faults write_faults =
     record {
       held = held;
       misses = misses;
@@ -30,6 +31,7 @@ outside held misses read_faults aborts stream_faults out_faults =
       aborts = aborts;
       stream_faults = stream_faults;
       out_faults = out_faults;
+      write_faults = write_faults;
     }
 
 -- why a text was not read under a name, by the files and by two counts before and now
@@ -68,6 +70,6 @@ IsEndedAs words before now (Trapped trap step) = IsReadable words before.held
 IsEndedAs words before now (BudgetSpent steps) = IsReadable words before.held
 IsEndedAs words before now ScheduleFull = IsReadable words before.held
 IsEndedAs words before now CannotWrite =
-    IsReadable words before.held × (Rose before.stream_faults now.stream_faults ⊎ Rose before.out_faults now.out_faults)
+    IsReadable words before.held × (Rose before.stream_faults now.stream_faults ⊎ (Rose before.out_faults now.out_faults ⊎ Rose before.write_faults now.write_faults))
 IsEndedAs words before now Aborted = IsReadable words before.held × Rose before.aborts now.aborts
 IsEndedAs words before now other = IsStoppedAs words before.held before.misses now.misses before.read_faults now.read_faults other

@@ -2,6 +2,8 @@
 use Rattle.std.specs.Prelude.{ℕ, List, [], ◌∷◌, ◌++◌, codes, decimal, Result, Ok, Err}
 use Rattle.guest_text.specs.declared.refused.ProgramCause.{ProgramCause}
 use Rattle.guest_text.specs.declared.refused.ProgramCause.TheVariants as cause
+use Rattle.prof_outer.specs.declared.depot.PutFault.{PutFault}
+use Rattle.prof_outer.specs.declared.depot.PutFault.TheVariants as put
 use Rattle.prof_outer.specs.declared.sink.SinkFault.{SinkFault}
 use Rattle.prof_outer.specs.declared.sink.SinkFault.TheVariants as sink
 use Rattle.record_text.specs.declared.refused.LineCause.{LineCause}
@@ -137,6 +139,12 @@ work_ending (Err cut.Failed) due (Err sink.Failed) = CannotWrite
 work_ending (Err cut.Failed) due (Ok u) = CannotWrite
 work_ending (Ok u) due (Err sink.Failed) = where_done due CannotWrite
 work_ending (Ok u) due (Ok v) = due
+
+-- how a call ends that was to end in this way, by how the text of its schedule was put: a failed put counts only where all else was done
+abbrev pub after_put : Ending → Result (Unit {0}) PutFault → Ending
+after_put ending (Err put.Memory) = Memory
+after_put ending (Err put.Failed) = where_done ending CannotWrite
+after_put ending (Ok u) = ending
 
 -- how a call ends, by how its line of error was written: only out of memory changes that
 abbrev pub ending_after : Ending → Result (Unit {0}) SinkFault → Ending

@@ -6,6 +6,7 @@ pub mod HandedOut
 pub mod Outcome
 pub mod PrintedText
 pub mod Product
+pub mod PutText
 pub mod RunSchedule
 pub mod Said
 pub mod Status

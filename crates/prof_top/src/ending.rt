@@ -42,7 +42,7 @@ pub enum Ending {
     CannotRead {
         name: Text,
     },
-    /// The stream or `out` failed.
+    /// The stream or `out` failed, or the schedule's text could not be put.
     CannotWrite,
     /// Out of memory.
     Memory,

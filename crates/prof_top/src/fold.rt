@@ -1,5 +1,5 @@
 // The fold of an item list: the delivery of its files, and the text that is printed.
-ghost use Rattle.std.specs.Prelude.{◌≡◌, ◌⊎◌, ◌≤◌, []};
+ghost use Rattle.std.specs.Prelude.{◌≡◌, ◌⊎◌, ◌≤◌, ℕ, []};
 ghost use Rattle.item_text.specs.Items.{IsItemList};
 ghost use Rattle.prof_base.specs.Causes.{Rose};
 ghost use Rattle.prof_top.specs.Ending.{status_of, IsDue, IsWorkEnding};
@@ -30,10 +30,10 @@ pub(crate) fn fold<S: OutputStream, O: Sink>(
     ensures cannot_write { result ≡ Ending.CannotWrite → Rose (S.stream_faults stream.old) (S.stream_faults stream.new) ⊎ Rose (O.faults out.old) (O.faults out.new) }
     ensures aborted { result ≡ Ending.Aborted → Rose (S.aborts stream.old) (S.aborts stream.new) }
 
-    // What has come out.
-    ensures worked { IsWorked (Fold list.now) (status_of result) []
-        (outlets (S.parts stream.old) (S.aborts stream.old) (S.stream_faults stream.old) (O.written out.old) (O.faults out.old))
-        (outlets (S.parts stream.new) (S.aborts stream.new) (S.stream_faults stream.new) (O.written out.new) (O.faults out.new)) }
+    // What has come out, whatever else was written.
+    ensures worked { (write_faults write_faults' : ℕ) → IsWorked (Fold list.now) (status_of result) []
+        (outlets (S.parts stream.old) (S.aborts stream.old) (S.stream_faults stream.old) (O.written out.old) (O.faults out.old) write_faults)
+        (outlets (S.parts stream.new) (S.aborts stream.new) (S.stream_faults stream.new) (O.written out.new) (O.faults out.new) write_faults') }
 
     // The stream's size of chunks stays the same, and no count falls.
     ensures chunk_size { S.chunk_bytes stream.new ≡ S.chunk_bytes stream.old }

@@ -9,6 +9,7 @@ pub mod laws;
 mod load;
 mod printing;
 mod printout;
+mod putting;
 mod run;
 mod words;
 

@@ -56,6 +56,7 @@ fn text_under<D: Depot>(alloc: Global, depot: &mut D, name: &Text) -> Result<Vec
     ensures held { D.held depot.new ≡ D.held depot.old }
     ensures misses { D.misses depot.old ≤ D.misses depot.new }
     ensures read_faults { D.read_faults depot.old ≤ D.read_faults depot.new }
+    ensures write_faults { D.write_faults depot.new ≡ D.write_faults depot.old }
 {
     match depot.get(alloc, name) {
         Ok(text) => Ok(text),
@@ -73,6 +74,7 @@ fn program_under<D: Depot>(alloc: Global, depot: &mut D, name: &Text) -> Result<
     ensures held { D.held depot.new ≡ D.held depot.old }
     ensures misses { D.misses depot.old ≤ D.misses depot.new }
     ensures read_faults { D.read_faults depot.old ≤ D.read_faults depot.new }
+    ensures write_faults { D.write_faults depot.new ≡ D.write_faults depot.old }
 {
     let text = text_under(alloc, depot, name)?;
     match read_program(alloc, &text) {
@@ -90,6 +92,7 @@ fn list_under<D: Depot>(alloc: Global, depot: &mut D, name: &Text) -> Result<Ite
     ensures held { D.held depot.new ≡ D.held depot.old }
     ensures misses { D.misses depot.old ≤ D.misses depot.new }
     ensures read_faults { D.read_faults depot.old ≤ D.read_faults depot.new }
+    ensures write_faults { D.write_faults depot.new ≡ D.write_faults depot.old }
 {
     let text = text_under(alloc, depot, name)?;
     match read_items(alloc, &text) {
@@ -122,6 +125,7 @@ fn load_line<D: Depot>(alloc: Global, line: CommandLine, depot: &mut D) -> Resul
     ensures held { D.held depot.new ≡ D.held depot.old }
     ensures misses { D.misses depot.old ≤ D.misses depot.new }
     ensures read_faults { D.read_faults depot.old ≤ D.read_faults depot.new }
+    ensures write_faults { D.write_faults depot.new ≡ D.write_faults depot.old }
 {
     match line {
         CommandLine::Run {
@@ -152,6 +156,7 @@ pub(crate) fn load<D: Depot>(alloc: Global, words: &[String], depot: &mut D) -> 
     ensures held { D.held depot.new ≡ D.held depot.old }
     ensures misses { D.misses depot.old ≤ D.misses depot.new }
     ensures read_faults { D.read_faults depot.old ≤ D.read_faults depot.new }
+    ensures write_faults { D.write_faults depot.new ≡ D.write_faults depot.old }
 {
     match command_line(alloc, words) {
         Ok(line) => load_line(alloc, line, depot),

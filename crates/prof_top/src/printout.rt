@@ -1,5 +1,5 @@
 // The printed text of a command, once its files were delivered.
-ghost use Rattle.std.specs.Prelude.{◌≡◌, ◌⊎◌, ◌≤◌, ◌++◌, OnOk, IsErrOf, flat_map};
+ghost use Rattle.std.specs.Prelude.{◌≡◌, ◌⊎◌, ◌≤◌, ◌++◌, ℕ, OnOk, IsErrOf, flat_map};
 ghost use Rattle.prof_base.specs.Causes.{Rose};
 ghost use Rattle.prof_outer.specs.Appends.{AppendsWhole, AppendsPart};
 ghost use Rattle.prof_top.specs.Ending.{work_ending, where_done, status_of, IsDue, IsWorkEnding};
@@ -13,8 +13,8 @@ use out_stream::Undelivered;
 use prof_outer::{Sink, SinkFault};
 use std::alloc::Global;
 
-// Returns the ending where the one that is due is `Done`, and else the one that is due.
-fn where_done(due: Ending, ending: Ending) -> Ending
+/// Returns the ending where the one that is due is `Done`, and else the one that is due.
+pub(crate) fn where_done(due: Ending, ending: Ending) -> Ending
     ensures { result ≡ where_done due ending }
 {
     match due {
@@ -87,8 +87,8 @@ pub(crate) fn print_out<O: Sink>(
     ensures aborted { result ≡ Ending.Aborted → IsErrOf delivered Undelivered.Aborted }
     ensures faults { O.faults out.old ≤ O.faults out.new }
 
-    // What has come out.
-    ensures handed { HandsOut delivered due lines.now notes.now (status_of result) (O.written out.old) (O.faults out.old) (O.written out.new) (O.faults out.new) }
+    // What has come out, whatever else was written.
+    ensures handed { (write_faults write_faults' : ℕ) → HandsOut delivered due lines.now notes.now (status_of result) (O.written out.old) (O.faults out.old) write_faults (O.written out.new) (O.faults out.new) write_faults' }
 {
     let written = print(alloc, delivered, lines, notes, out);
     work_ending(delivered, due, written)

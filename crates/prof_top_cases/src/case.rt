@@ -1,7 +1,9 @@
-// A case, as it is written in the file of cases: a title, settings of one line each, and the text of
-// the one file that there is after a line `program`, a program or an item list. In that text a line `*N LINE` means N copies of LINE, in
-// which `@` is the number of the copy, from 1.
+// A case, as it is written in the file of cases: a title, settings of one line each, and after a line
+// `program` the text of the file that is named, a program or an item list. In that text a line
+// `*N LINE` means N copies of LINE, in which `@` is the number of the copy, from 1. The depot has that
+// file, and one under the schedule's name where a setting `old` gives its bytes.
 use anyhow::{Result, bail};
+use prof_outer::Left;
 use std::alloc::Global;
 
 /// A call to make. A number of a failing call is 0 where no call fails.
@@ -18,8 +20,22 @@ pub(crate) struct Case<'a> {
     pub(crate) chunk_fails: u64,
     pub(crate) chunk_aborts: u64,
     pub(crate) read_fails: u64,
+    pub(crate) put_fails: u64,
+    /// What the put that fails leaves under its name.
+    pub(crate) put_leaves: Left,
+    /// The bytes that the depot has under the schedule's name before the call, if any.
+    pub(crate) old: Option<&'a str>,
     pub(crate) out_fails: u64,
     pub(crate) err_fails: u64,
+}
+
+fn left_of(word: &str) -> Result<Left> {
+    match word {
+        "old" => Ok(Left::OldBytes),
+        "new" => Ok(Left::NewBytes),
+        "nothing" => Ok(Left::Nothing),
+        _ => bail!("no word for what is left: {word}"),
+    }
 }
 
 fn set<'a>(alloc: Global, case: &mut Case<'a>, line: &'a str) -> Result<()> {
@@ -31,6 +47,9 @@ fn set<'a>(alloc: Global, case: &mut Case<'a>, line: &'a str) -> Result<()> {
         "chunk-fails" => case.chunk_fails = value.parse()?,
         "chunk-aborts" => case.chunk_aborts = value.parse()?,
         "read-fails" => case.read_fails = value.parse()?,
+        "put-fails" => case.put_fails = value.parse()?,
+        "put-leaves" => case.put_leaves = left_of(value)?,
+        "old" => case.old = Some(value),
         "out-fails" => case.out_fails = value.parse()?,
         "err-fails" => case.err_fails = value.parse()?,
         _ => bail!("no setting of a case: {key}"),
@@ -71,6 +90,9 @@ pub(crate) fn case_of(alloc: Global, block: &str) -> Result<Case<'_>> {
         chunk_fails: 0,
         chunk_aborts: 0,
         read_fails: 0,
+        put_fails: 0,
+        put_leaves: Left::OldBytes,
+        old: None,
         out_fails: 0,
         err_fails: 0,
     };

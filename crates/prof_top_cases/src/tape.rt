@@ -7,22 +7,24 @@ use std::alloc::Global;
 use std::str;
 
 /// A part longer than this is printed as its length and its hash.
-const SHOWN: u64 = 1_000;
+pub(crate) const SHOWN: u64 = 1_000;
 
 /// The length of a part so far, and its FNV-1a hash of 64 bits.
 #[derive(Clone, Copy)]
-struct Digest {
-    length: u64,
-    hash: u64,
+pub(crate) struct Digest {
+    pub(crate) length: u64,
+    pub(crate) hash: u64,
 }
 
-const NO_BYTES: Digest = Digest {
+/// The digest of no bytes.
+pub(crate) const NO_BYTES: Digest = Digest {
     length: 0,
     hash: 0xcbf2_9ce4_8422_2325,
 };
 
 impl Digest {
-    fn add(&mut self, chunk: &[u8]) {
+    /// Adds these bytes.
+    pub(crate) fn add(&mut self, chunk: &[u8]) {
         for byte in chunk {
             self.length = self.length.wrapping_add(1);
             self.hash = (self.hash ^ u64::from(*byte)).wrapping_mul(0x0100_0000_01b3);

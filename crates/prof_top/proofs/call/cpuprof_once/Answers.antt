@@ -1,9 +1,11 @@
 use Rattle.std.proofs.Common.{inl, inr, map, string_bytes, sym, ◌∙◌}
 use Rattle.isolate.specs.Fits.{Fits}
-use Rattle.prof_top.proofs.Ends.{refused_by, absent_by}
+use Rattle.prof_top.proofs.Ends.{refused_so, absent_so}
 use Rattle.prof_top.proofs.Outcomes.{all_legal, asks_to_run, at_most_one, each_of, none_before, one_after, outcome_with, run_or_none}
 use Rattle.prof_top.proofs.Lines.{readable_at_last}
+use Rattle.prof_top.proofs.Puts.{put_at_last}
 use Rattle.prof_top.proofs.call.cpuprof_once.Goals as goal
+use Rattle.prof_top.specs.Causes.{outside}
 use Rattle.prof_top.specs.Ending.{status_of}
 use Rattle.prof_top.specs.RunSchedule.{IsHead}
 use Rattle.step_clock.specs.StepClock.{IsStepClock}
@@ -15,6 +17,11 @@ returns-clause-readable g c =
 pub returns-clause-outcome : goal.returns-clause-outcome
 returns-clause-outcome g c =
     outcome_with (map string_bytes c.args.words.now) (g.D.Depot.held c.args.depot.now) (status_of c.once-ran.result.ending) c.status.result c.once-ran.result.schedules _ _ c.status.ensures c.once-ran.ensures.outcome
+
+pub returns-clause-put : goal.returns-clause-put
+returns-clause-put g c =
+    put_at_last c.once-ran.result.schedules (status_of c.once-ran.result.ending) c.status.result (g.D.Depot.held c.args.depot.now) (g.D.Depot.held c.once-ran.new.depot)
+    (g.D.Depot.write_faults c.args.depot.now) (g.D.Depot.write_faults c.once-ran.new.depot) (inl c.status.ensures) c.once-ran.ensures.put
 
 pub returns-clause-ran : goal.returns-clause-ran
 returns-clause-ran g c asks is =
@@ -64,8 +71,10 @@ returns-clause-full g c is =
 
 pub returns-clause-refused : goal.returns-clause-refused
 returns-clause-refused g c kind is =
-    refused_by (map string_bytes c.args.words.now) _ _ _ _ _ _ c.once-ran.result.ending kind c.once-ran.ensures.ending (sym c.status.ensures ∙ is)
+    refused_so (map string_bytes c.args.words.now) (outside (g.D.Depot.held c.args.depot.now) _ _ _ _ _ _) (outside (g.D.Depot.held c.once-ran.new.depot) _ _ _ _ _ _) c.once-ran.result.ending kind c.once-ran.ensures.ending
+    (sym c.status.ensures ∙ is)
 
 pub returns-clause-absent : goal.returns-clause-absent
 returns-clause-absent g c is =
-    absent_by (map string_bytes c.args.words.now) _ _ _ _ _ _ c.once-ran.result.ending c.once-ran.ensures.ending (sym c.status.ensures ∙ is)
+    absent_so (map string_bytes c.args.words.now) (outside (g.D.Depot.held c.args.depot.now) _ _ _ _ _ _) (outside (g.D.Depot.held c.once-ran.new.depot) _ _ _ _ _ _) c.once-ran.result.ending c.once-ran.ensures.ending
+    (sym c.status.ensures ∙ is)

@@ -8,11 +8,11 @@ pub fold_items-folded-requires-clause-legal : goal.fold_items-folded-requires-cl
 fold_items-folded-requires-clause-legal g c = search (rules, kept_lists_are_legal c.args.list.now c.requires.rules)
 
 pub returns-in_default-clause-worked : goal.returns-in_default-clause-worked
-returns-in_default-clause-worked g c = inr (inl (refl, record { none = refl; parts = refl; written = refl }))
+returns-in_default-clause-worked g c puts puts' = inr (inl (refl, record { none = refl; parts = refl; written = refl }))
 
 pub returns-clause-worked : goal.returns-clause-worked
-returns-clause-worked g c =
+returns-clause-worked g c puts puts' =
     let folded = c.fold_items-folded in
     inl (fold_done c.args.list.now c.as_slice-items.result.now _ (status_of c.print_out.result) c.as_bytes.result.now _ _ (search rules) refl (search rules)
-    (c.print_out.ensures.handed _ _ _ _ _ _ _
+    (c.print_out.ensures.handed puts puts' _ _ _ _ _ _ _
     (delivered_as _ folded.result.delivered folded.result.notes c.as_slice-notes.result.now _ _ _ _ _ _ (search rules) folded.ensures.delivers folded.ensures.aborted folded.ensures.failed)))
