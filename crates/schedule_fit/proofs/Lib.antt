@@ -1,0 +1,4 @@
+pub mod MachineRuns
+pub mod Numbered
+pub mod Reaching
+pub mod Rising
