@@ -31,4 +31,5 @@ begun funcs config r calls before now i p places steps none opened = record {
   opened = first_raised funcs config opened.moment opened.raised (subst (λ (q : Progress). StandsFor funcs opened.moment q opened.raised) opened.progress opened.way.kept.stands);
   none_filed = tt;
   head = subst (λ (q : Progress). SameHead (first_progress config).schedule q.schedule) (sym opened.progress) (record { base = refl; ring = refl; budget = refl; limit = refl });
+  takes = opened.takes;
 }

@@ -32,38 +32,10 @@ use Rattle.step_clock.proofs.Clock.{clocks_are_legal, clocks_fit, last_pushed}
 use Rattle.step_clock.specs.ClockCalls.{AreByClock, begun_on}
 use Rattle.step_clock.specs.ClockTurns.{IsClockEnd}
 use Rattle.step_clock.specs.StepClock.{IsStepClock, IsWholeRecording, last_step}
+use Rattle.one_thread.proofs.Finished.{all_delivered, not_short, run_funcs, same_why}
 use Rattle.one_thread.specs.UnderWay.{HasTurned, IsUnderWay, Outlet, PlainIsolate, PlainProcessor, SameHead, first_progress}
 use Rattle.clock_run.specs.Run.{HasEnded, IsGoing}
-use Rattle.clock_run.proofs.Turn.{head_now, none_filed_now, run_funcs, stays, way_now}
-
-last_of : (e f : ScheduleEntry) (xs ys : List ScheduleEntry) → xs ++ e ∷ [] ≡ ys ++ f ∷ [] → e ≡ f
-last_of e f [] [] same = cc
-last_of e f [] (y ∷ []) same = absurd (cc same)
-last_of e f [] (y ∷ z ∷ ys) same = absurd (cc same)
-last_of e f (x ∷ []) [] same = absurd (cc same)
-last_of e f (x ∷ z ∷ xs) [] same = absurd (cc same)
-last_of e f (x ∷ xs) (y ∷ ys) same = last_of e f xs ys (tails x y (xs ++ e ∷ []) (ys ++ f ∷ []) same) where
-  tails : {A : Type 0} (x y : A) (xs ys : List A) → x ∷ xs ≡ y ∷ ys → xs ≡ ys
-  tails x y xs ys same = cc
-
--- a schedule that ends for another cause does not end out of memory
-not_short : (why : EndCause) (entries : List ScheduleEntry) → ¬ (why ≡ cause.Memory) → EndsFor why entries → ¬ EndsFor cause.Memory entries
-not_short why entries other one two =
-    let same = last_of (record { step = one.1; time = one.2; what = End why }) (record { step = two.1; time = two.2; what = End cause.Memory }) one.0 two.0 (sym one.3 ∙ two.3) in
-    let whats : End why ≡ End cause.Memory = ap (λ (e : ScheduleEntry). e.what) same in
-    other (cc)
-
-no_more : (later : List SessionFile) → map (λ file. file.session) later ≡ [] → later ≡ []
-no_more [] none = refl
-no_more (f ∷ later) none = absurd (cc none)
-
--- all files were delivered, as far as the answer says
-all_delivered : (base : ℕ) (raised : List Item) (filing : FilingParts) (before now : Option Parts) (files : List SessionFile) → AreDelivered base raised [] filing before now → item_files base raised ≡ files
-    → Delivers files (answer_of filing.delivery filing.is_spent) filing.notes before now
-all_delivered base raised filing before now files are same =
-    let finished : are.finished ≡ files =
-    sym (append-nil are.finished) ∙ ap (λ (l : List SessionFile). are.finished ++ l) (sym (no_more are.later are.whose)) ∙ sym are.all ∙ same in
-    subst (λ (l : List SessionFile). Delivers l (answer_of filing.delivery filing.is_spent) filing.notes before now) finished are.delivered.delivers
+use Rattle.clock_run.proofs.Turn.{head_now, none_filed_now, stays, way_now}
 
 no_prefix : (part rest : List ℕ) → [] ≡ part ++ rest → part ≡ []
 no_prefix [] rest same = refl
@@ -86,9 +58,7 @@ module _ {S : Type 0} (funcs : List Func) (config : IsoConfig) (why : EndCause) 
   schedule = i.progress.schedule
 
   why_is : end.why ≡ why
-  why_is = same_why end.why why (sym end.ending ∙ ending) where
-    same_why : (a b : EndCause) → Some a ≡ Some b → a ≡ b
-    same_why a b same = cc
+  why_is = same_why end.why why (sym end.ending ∙ ending)
 
   ends_for : EndsFor why schedule.entries
   ends_for = (end.before, i.progress.step, end.time, end.entries ∙ ap (λ (c : EndCause). end.before ++ record { step = i.progress.step; time = end.time; what = End c } ∷ []) why_is)
@@ -139,17 +109,15 @@ module _ {S : Type 0} (funcs : List Func) (config : IsoConfig) (why : EndCause) 
 
 -- a run that has ended in this turn
 module _ {S : Type 0} (funcs : List Func) (config : IsoConfig) (before now later : Outlet) (i0 i1 : PlainIsolate) (p0 p1 : PlainProcessor S) (r0 r1 : Options) (calls0 calls1 : List Call) (answer : IsoTurn)
-    (big : 4 ≤ config.ring) (whole0 : IsWholeRecording r0.interval r0) (whole1 : IsWholeRecording r1.interval r1) (same : r1.interval ≡ r0.interval) (by1 : AreByClock r1 false calls1)
+    (whole0 : IsWholeRecording r0.interval r0) (whole1 : IsWholeRecording r1.interval r1) (same : r1.interval ≡ r0.interval) (by1 : AreByClock r1 false calls1)
     (g : IsGoing funcs config r0 (begun_on false calls0) before now i0 p0)
     (turned : HasTurned config.base funcs g.moment (g.opening ++ g.more) before later i0 i1 p1 (Some calls0) (Some calls1) answer) where
   pub ended_now : (why : EndCause) → r0.interval ≡ config.base → i1.progress.ending ≡ Some why → HasEnded funcs config why before later i1 p1
   ended_now why base ending =
-      let turn = stays funcs config before now later i0 i1 p0 p1 r0 r1 calls0 calls1 answer big whole0 whole1 same by1 g turned in
+      let turn = stays funcs config before now later i0 i1 p0 p1 r0 r1 calls0 calls1 answer whole0 whole1 same by1 g turned in
       has_ended funcs config why before later i1 p1 (moment_on g.moment turned.acts) g.opening (g.more ++ raised_on g.moment i0.progress turned.acts)
-      (way_now funcs config before now later i0 i1 p0 p1 r0 r1 calls0 calls1 answer big whole0 whole1 same by1 g turned)
-      (head_now funcs config before now later i0 i1 p0 p1 r0 r1 calls0 calls1 answer big whole0 whole1 same by1 g turned)
+      (way_now funcs config before now later i0 i1 p0 p1 r0 r1 calls0 calls1 answer whole0 whole1 same by1 g turned)
+      (head_now funcs config before now later i0 i1 p0 p1 r0 r1 calls0 calls1 answer whole0 whole1 same by1 g turned)
       (run_funcs g.moment i0.progress (first_phase i0.progress) turned.last turned.acts turned.follow ∙ (g.way.kept.fits.going g.on.going).funcs_are) ending
       (subst (λ (n : ℕ). IsClockEnd n (moment_on g.moment turned.acts) i1.progress) base (turn.ends (λ going. absurd (cc (going, ending))))) g.opened
-      (λ memory. none_filed_now funcs config before now later i0 i1 p0 p1 r0 r1 calls0 calls1 answer big whole0 whole1 same by1 g turned (λ other is. same_why other why (sym is ∙ ending) ∙ memory)) where
-        same_why : (a b : EndCause) → Some a ≡ Some b → a ≡ b
-        same_why a b same = cc
+      (λ memory. none_filed_now funcs config before now later i0 i1 p0 p1 r0 r1 calls0 calls1 answer whole0 whole1 same by1 g turned (λ other is. same_why other why (sym is ∙ ending) ∙ memory))

@@ -1,5 +1,5 @@
 -- A run of a program on the step clock: where it is between its turns, and what it has come to.
-use Rattle.std.specs.Prelude.{◌≡◌, List, [], ◌++◌, Bool, IfSome}
+use Rattle.std.specs.Prelude.{◌≡◌, List, [], ◌++◌, Bool, false, IfSome}
 use Rattle.std.specs.List.{AllByRecursion}
 use Rattle.guest_program.specs.declared.instr.Func.{Func}
 use Rattle.code_event.specs.declared.event.Options.{Options}
@@ -20,7 +20,7 @@ use Rattle.step_clock.specs.ClockTurns.{IsOnClock}
 use Rattle.step_clock.specs.StepClock.{IsStepClock, last_step}
 use Rattle.one_thread.specs.UnderWay.{IsCounted, IsUnderWay, Outlet, PlainIsolate, PlainProcessor, SameHead, first_progress}
 
--- Between turns, while the run goes on: its entries are those of the step clock so far, and nothing was raised since the opening that leaves a file.
+-- Between turns, while the run goes on: its entries are those of the step clock so far, nothing was raised since the opening that leaves a file, and no sample is refused.
 pub record IsGoing {S : Type 0} (funcs : List Func) (config : IsoConfig) (recording : Options) (begun : Bool) (before now : Outlet) (isolate : PlainIsolate) (processor : PlainProcessor S) : Type 0 where
   pub moment : Moment
   pub opening : List Item
@@ -30,6 +30,7 @@ pub record IsGoing {S : Type 0} (funcs : List Func) (config : IsoConfig) (record
   pub opened : IsRaised funcs config.base [] 0 opening
   pub none_filed : AllByRecursion ItemLeavesNoFile more
   pub head : SameHead (first_progress config).schedule isolate.progress.schedule
+  pub takes : isolate.ends.ring.refuses ≡ false
 
 -- A run that has ended for this cause. Its schedule has the head that it was opened with, and ends so. Unless memory ran out in the run: the schedule is that of the step clock, it is legal and the program reaches its entries; the program has printed what the plain machine has at its end; and the files are the plain ones, delivered as far as the answer says. Where memory ran out, no file was delivered.
 pub record HasEnded {S : Type 0} (funcs : List Func) (config : IsoConfig) (why : EndCause) (before now : Outlet) (isolate : PlainIsolate) (processor : PlainProcessor S) : Type 0 where

@@ -5,7 +5,7 @@ ghost use Rattle.guest_program.specs.declared.instr.Func.{Func};
 ghost use Rattle.run_schedule.specs.declared.limits.TheConstants.{MAX_BUDGET, MAX_ENTRIES, MAX_RING, MIN_ENTRIES};
 ghost use Rattle.isolate_turns.specs.declared.state.IsoConfig.{IsoConfig};
 ghost use Rattle.step_clock.specs.ClockCalls.{begun_on};
-ghost use Rattle.step_clock.specs.ClockPorts.{call_of};
+ghost use Rattle.port_calls.specs.PortCalls.{call_of};
 ghost use Rattle.one_thread.specs.UnderWay.{Outlet};
 ghost use Rattle.clock_run.specs.Run.{HasEnded, IsGoing};
 
@@ -29,9 +29,9 @@ pub struct ClockRun<S> {
 
 // Turns both sides until the isolate ends, and returns why.
 fn turn_to_end<S: OutputStream>(thread: &mut OneThread<S>, clock: &mut StepClock) -> EndCause
-    requires going { (funcs : List Func) × (config : IsoConfig) × (before : Outlet) × (4 ≤ config.ring) × (clock.old.recording.interval ≡ config.base)
+    requires going { (funcs : List Func) × (config : IsoConfig) × (before : Outlet) × (clock.old.recording.interval ≡ config.base)
         × IsGoing funcs config clock.old.recording (begun_on false (map call_of clock.old.history.items)) before (record { parts = S.parts thread.old.processor.stream; aborts = S.aborts thread.old.processor.stream; faults = S.stream_faults thread.old.processor.stream; chunk_bytes = S.chunk_bytes thread.old.processor.stream }) thread.old.isolate thread.old.processor }
-    ensures ended { (funcs : List Func) (config : IsoConfig) (before : Outlet) → 4 ≤ config.ring → clock.old.recording.interval ≡ config.base
+    ensures ended { (funcs : List Func) (config : IsoConfig) (before : Outlet) → clock.old.recording.interval ≡ config.base
         → IsGoing funcs config clock.old.recording (begun_on false (map call_of clock.old.history.items)) before (record { parts = S.parts thread.old.processor.stream; aborts = S.aborts thread.old.processor.stream; faults = S.stream_faults thread.old.processor.stream; chunk_bytes = S.chunk_bytes thread.old.processor.stream }) thread.old.isolate thread.old.processor
         → HasEnded funcs config result before (record { parts = S.parts thread.new.processor.stream; aborts = S.aborts thread.new.processor.stream; faults = S.stream_faults thread.new.processor.stream; chunk_bytes = S.chunk_bytes thread.new.processor.stream }) thread.new.isolate thread.new.processor }
 {
@@ -54,7 +54,7 @@ pub fn run_on_clock<S: OutputStream>(
 ) -> Result<ClockRun<S>, S>
     requires base_low { 1 ≤ config.base }
     requires base_high { config.base ≤ MAX_INTERVAL }
-    requires ring_low { 4 ≤ config.ring }
+    requires ring_low { 1 ≤ config.ring }
     requires ring_high { config.ring ≤ MAX_RING }
     requires budget_low { 1 ≤ config.budget }
     requires budget_high { config.budget ≤ MAX_BUDGET }

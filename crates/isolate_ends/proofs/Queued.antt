@@ -1,12 +1,13 @@
 -- What goes into the queues and what is told to the ports, put together.
 use Rattle.std.proofs.Common.{◌≡◌, ℕ, suc, ◌+◌, List, [], ◌∷◌, ◌++◌, length, refl, ap, sym, subst, ◌∙◌, ⊎_elim, inl, inr}
-use Rattle.std.specs.Prelude.{Option, Some, None}
+use Rattle.std.specs.Prelude.{Option, Some, None, true, false}
 use Rattle.std.proofs.lemmas.List.{append_assoc, append-nil}
 use Rattle.code_event.specs.declared.event.CodeEvent.{CodeEvent}
 use Rattle.code_event.specs.declared.event.EventRecord.{EventRecord}
 use Rattle.code_event.specs.declared.tick.Item.{Item}
 use Rattle.code_event.specs.declared.tick.Item.TheVariants as item
 use Rattle.code_event.specs.declared.tick.Tick.{Tick}
+use Rattle.code_layout.proofs.Standing.{all_both}
 use Rattle.pipe_core.proofs.StampedRest.{events_of-append, ticks_of-append}
 use Rattle.pipe_core.specs.CoreOrder.{IsJoined}
 use Rattle.pipe_core.specs.Observed.{appended}
@@ -40,26 +41,32 @@ got_event before after e events vm_ticks ring = record {
   vm_ticks = vm_ticks ∙ none_more before.vm_ticks;
   ring = ring ∙ none_more before.ring;
   joined = (refl, refl);
+  no_hits = tt;
+  hits = tt;
 }
 
-got_tick : (before after : Lists) (t : Tick) → after.events ≡ before.events → after.vm_ticks ≡ appended before.vm_ticks t → after.ring ≡ before.ring → GotMore before after (item.Tick t ∷ [])
-got_tick before after t events vm_ticks ring = record {
+got_tick : (before after : Lists) (t : Tick) → t.hit ≡ false → after.events ≡ before.events → after.vm_ticks ≡ appended before.vm_ticks t → after.ring ≡ before.ring → GotMore before after (item.Tick t ∷ [])
+got_tick before after t no_hit events vm_ticks ring = record {
   events = events ∙ none_more before.events;
   vm_more = t ∷ [];
   ring_more = [];
   vm_ticks = vm_ticks ∙ one_more before.vm_ticks t;
   ring = ring ∙ none_more before.ring;
   joined = inl ([], refl, (refl, refl));
+  no_hits = (no_hit, tt);
+  hits = tt;
 }
 
-got_sample : (before after : Lists) (t : Tick) → after.events ≡ before.events → after.vm_ticks ≡ before.vm_ticks → after.ring ≡ appended before.ring t → GotMore before after (item.Tick t ∷ [])
-got_sample before after t events vm_ticks ring = record {
+got_sample : (before after : Lists) (t : Tick) → t.hit ≡ true → after.events ≡ before.events → after.vm_ticks ≡ before.vm_ticks → after.ring ≡ appended before.ring t → GotMore before after (item.Tick t ∷ [])
+got_sample before after t is_hit events vm_ticks ring = record {
   events = events ∙ none_more before.events;
   vm_more = [];
   ring_more = t ∷ [];
   vm_ticks = vm_ticks ∙ none_more before.vm_ticks;
   ring = ring ∙ one_more before.ring t;
   joined = inr ([], refl, (refl, refl));
+  no_hits = tt;
+  hits = (is_hit, tt);
 }
 
 got_nothing : (before after : Lists) → after.events ≡ before.events → after.vm_ticks ≡ before.vm_ticks → after.ring ≡ before.ring → GotMore before after []
@@ -70,6 +77,8 @@ got_nothing before after events vm_ticks ring = record {
   vm_ticks = vm_ticks ∙ none_more before.vm_ticks;
   ring = ring ∙ none_more before.ring;
   joined = (refl, refl);
+  no_hits = tt;
+  hits = tt;
 }
 
 -- one event more
@@ -80,18 +89,18 @@ pub have_event : (before after : Shown) (e : EventRecord)
 have_event before after e a b c d f g = record { passed = got_event before.passed after.passed e a b c; holds = got_event before.holds after.holds e d f g }
 
 -- one tick of the engine more
-pub have_tick : (before after : Shown) (t : Tick)
+pub have_tick : (before after : Shown) (t : Tick) → t.hit ≡ false
     → after.passed.events ≡ before.passed.events → after.passed.vm_ticks ≡ appended before.passed.vm_ticks t → after.passed.ring ≡ before.passed.ring
     → after.holds.events ≡ before.holds.events → after.holds.vm_ticks ≡ appended before.holds.vm_ticks t → after.holds.ring ≡ before.holds.ring
     → HaveMore before after (item.Tick t ∷ [])
-have_tick before after t a b c d f g = record { passed = got_tick before.passed after.passed t a b c; holds = got_tick before.holds after.holds t d f g }
+have_tick before after t no_hit a b c d f g = record { passed = got_tick before.passed after.passed t no_hit a b c; holds = got_tick before.holds after.holds t no_hit d f g }
 
 -- one sample more
-pub have_sample : (before after : Shown) (t : Tick)
+pub have_sample : (before after : Shown) (t : Tick) → t.hit ≡ true
     → after.passed.events ≡ before.passed.events → after.passed.vm_ticks ≡ before.passed.vm_ticks → after.passed.ring ≡ appended before.passed.ring t
     → after.holds.events ≡ before.holds.events → after.holds.vm_ticks ≡ before.holds.vm_ticks → after.holds.ring ≡ appended before.holds.ring t
     → HaveMore before after (item.Tick t ∷ [])
-have_sample before after t a b c d f g = record { passed = got_sample before.passed after.passed t a b c; holds = got_sample before.holds after.holds t d f g }
+have_sample before after t is_hit a b c d f g = record { passed = got_sample before.passed after.passed t is_hit a b c; holds = got_sample before.holds after.holds t is_hit d f g }
 
 -- nothing more
 pub have_nothing : (before after : Shown)
@@ -122,6 +131,8 @@ got_both a b c xs ys one other = record {
   joined =
       subst (IsJoined (one.vm_more ++ other.vm_more) (one.ring_more ++ other.ring_more)) (sym (ticks_of-append xs ys))
       (joined_both one.vm_more one.ring_more (ticks_of xs) other.vm_more other.ring_more (ticks_of ys) one.joined other.joined);
+  no_hits = all_both (λ (t : Tick). t.hit ≡ false) one.vm_more other.vm_more one.no_hits other.no_hits;
+  hits = all_both (λ (t : Tick). t.hit ≡ true) one.ring_more other.ring_more one.hits other.hits;
 }
 
 -- what was put in, and what was put in after it

@@ -1,4 +1,5 @@
 pub mod Queues
 pub mod Ports
 pub mod Runs
+pub mod Offered
 pub mod RunLaws

@@ -1,5 +1,6 @@
 -- What an isolate puts into its three queues.
-use Rattle.std.specs.Prelude.{◌≡◌, List, ◌++◌, Option, option_map}
+use Rattle.std.specs.Prelude.{◌≡◌, List, ◌++◌, Option, option_map, true, false}
+use Rattle.std.specs.List.{AllByRecursion}
 use Rattle.code_event.specs.declared.event.EventRecord.{EventRecord}
 use Rattle.code_event.specs.declared.tick.Item.{Item}
 use Rattle.code_event.specs.declared.tick.Tick.{Tick}
@@ -31,7 +32,7 @@ shown e_passed v_passed o_passed e_holds v_holds o_holds ends =
 abbrev pub with_all : {A : Type 0} → Option (List A) → List A → Option (List A)
 with_all before more = option_map (λ xs. xs ++ more) before
 
--- The lists have these items more: the events in the one, and the ticks in the two others, each in order.
+-- The lists have these items more: the events in the one, the samples in the ring, and the ticks of the engine in the third, each in order.
 pub record GotMore (before after : Lists) (raised : List Item) : Type 0 where
   pub events : after.events ≡ with_all before.events (events_of raised)
   pub vm_more : List Tick
@@ -39,6 +40,8 @@ pub record GotMore (before after : Lists) (raised : List Item) : Type 0 where
   pub vm_ticks : after.vm_ticks ≡ with_all before.vm_ticks vm_more
   pub ring : after.ring ≡ with_all before.ring ring_more
   pub joined : IsJoined vm_more ring_more (ticks_of raised)
+  pub no_hits : AllByRecursion (λ (t : Tick). t.hit ≡ false) vm_more
+  pub hits : AllByRecursion (λ (t : Tick). t.hit ≡ true) ring_more
 
 -- These items were put in, and are held.
 pub record HaveMore (before after : Shown) (raised : List Item) : Type 0 where

@@ -85,6 +85,7 @@ impl<E: Tail<EventRecord>, V: Tail<Tick>, O: Offer> Ends<E, V, O> {
 
     // Puts in a tick of the engine. When out of memory, it leaves the queues unchanged.
     pub fn put_tick(&mut self, alloc: Global, tick: Tick) -> Result<(), Memory>
+        requires no_hit { tick.hit ≡ false }
         ensures ok { OnOk result (HaveMore (shown E.passed V.passed O.passed E.holds V.holds O.holds self.old) (shown E.passed V.passed O.passed E.holds V.holds O.holds self.new) (item.Tick tick ∷ [])) }
         ensures err { OnErr result (shown E.passed V.passed O.passed E.holds V.holds O.holds self.new ≡ shown E.passed V.passed O.passed E.holds V.holds O.holds self.old) }
         ensures home { V.home self.new.vm_ticks ≡ V.home self.old.vm_ticks }
@@ -99,6 +100,7 @@ impl<E: Tail<EventRecord>, V: Tail<Tick>, O: Offer> Ends<E, V, O> {
 
     // Offers a sample to the ring, and returns whether it is in. It takes no memory and does not wait.
     pub fn offer(&mut self, tick: Tick) -> bool
+        requires hit { tick.hit ≡ true }
         ensures more { HaveMore (shown E.passed V.passed O.passed E.holds V.holds O.holds self.old) (shown E.passed V.passed O.passed E.holds V.holds O.holds self.new) (if result then item.Tick tick ∷ [] else []) }
         ensures home { O.home self.new.ring ≡ O.home self.old.ring }
         ensures events { self.new.events ≡ self.old.events }

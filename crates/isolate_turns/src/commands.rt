@@ -62,6 +62,7 @@ impl<E, V, O> Isolate<E, V, O> {
     fn start_tick(&self, now: u64) -> Tick
         requires machine { IsMachine self.now.guest.machine }
         ensures tick { (moment : Moment) → IsAt self.now.guest.machine moment → result ≡ start_tick moment self.now.progress (entry_time self.now.progress now) }
+        ensures no_hit { result.hit ≡ false }
     {
         let mut tick = Tick {
             order: self.progress.events() + 1,

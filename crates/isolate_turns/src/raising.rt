@@ -48,6 +48,7 @@ impl<E, V, O> Isolate<E, V, O> {
     fn given_up_tick(&self, events: u32) -> Tick
         requires machine { IsMachine self.now.guest.machine }
         ensures tick { (after : Moment) → IsAt self.now.guest.machine after → result ≡ given_up_tick after self.now.progress events }
+        ensures no_hit { result.hit ≡ false }
     {
         let mut tick = Tick {
             order: self.progress.events() + u64::from(events),

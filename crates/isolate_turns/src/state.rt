@@ -94,6 +94,7 @@ impl<E, V, O> Isolate<E, V, O> {
     fn sample(&self, now: u64) -> Tick
         requires machine { IsMachine self.now.guest.machine }
         ensures sample { (moment : Moment) → IsAt self.now.guest.machine moment → result ≡ sample_of moment self.now.progress now }
+        ensures hit { result.hit ≡ true }
     {
         let mut tick = Tick {
             order: self.progress.events(),

@@ -31,7 +31,7 @@ module _ {S : Type 0} (parts : S → Option Parts) (base : ℕ) (raised more : L
       (goes_on base raised more p1.applied p1.ticked p1.course before (parts p1.stream) i1.ends.events.items p1.events.items i1.ends.vm_ticks.items p1.vm_ticks.items i1.ends.ring.ring.items p1.ring.items settled_now hold_now)
 
   -- the queues that the isolate gets hold nothing
-  pub none_back : (i2 : PlainIsolate) → i2 ≡ record i1 { ends = record { events = p1.events; vm_ticks = p1.vm_ticks; ring = record { ring = p1.ring } } }
+  pub none_back : (i2 : PlainIsolate) → i2 ≡ record i1 { ends = record { events = p1.events; vm_ticks = p1.vm_ticks; ring = record i1.ends.ring { ring = p1.ring } } }
       → AreEmpty i2.ends.events.items i2.ends.vm_ticks.items i2.ends.ring.ring.items
   none_back i2 is =
       subst (λ (i : PlainIsolate). AreEmpty i.ends.events.items i.ends.vm_ticks.items i.ends.ring.ring.items) (sym is) (empty_rest raised p1.events.items p1.vm_ticks.items p1.ring.items settled_now.hold)

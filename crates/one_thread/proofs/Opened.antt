@@ -7,7 +7,6 @@ use Rattle.code_event.specs.declared.event.EventRecord.{EventRecord}
 use Rattle.code_event.specs.declared.tick.Tick.{Tick}
 use Rattle.out_stream.specs.Parts.{Parts}
 use Rattle.pipe_core.specs.Plain.{QueueValue, RingValue}
-use Rattle.isolate_acts.specs.Progress.{Progress}
 use Rattle.isolate_ends.specs.declared.ends.Ends.{Ends}
 use Rattle.isolate_turns.specs.declared.state.IsoConfig.{IsoConfig}
 use Rattle.processor.proofs.DeliveredFiles.{files_are_delivered}
@@ -18,13 +17,14 @@ use Rattle.processor.specs.Settling.{GoesOnTo, IsSettled}
 use Rattle.processor.specs.declared.turn.Delivery.TheVariants.{Fine}
 use Rattle.processor.specs.declared.turn.Phase.{Phase}
 use Rattle.processor.specs.declared.turn.Phase.TheVariants as phase
+use Rattle.one_thread.specs.declared.ring.TheConstants.{PLACES}
 use Rattle.one_thread.specs.declared.ring.TurnRing.{TurnRing}
 use Rattle.one_thread.specs.UnderWay.{AreAlike, HasOpened, HasRaised, IsBetween, IsHanded, Outlet, PlainIsolate, PlainProcessor}
 use Rattle.one_thread.proofs.Passed.{legal_at}
 
 module _ {S : Type 0} (funcs : List Func) (config : IsoConfig) (i : PlainIsolate) (p : PlainProcessor S) (raised : HasRaised funcs config i)
     (stands : (before : Option Parts) → StandsFor config.base [] p.applied p.ticked p.course before before) (opened : p.course.phase ≡ phase.Open)
-    (events : p.events ≡ record { items = []; spare = 1; is_shown = false; looks = 0 }) (vm_ticks : p.vm_ticks.items ≡ []) (ring : p.ring ≡ record { items = []; places = config.ring; is_held = false; fulls = 0; empties = 0 }) where
+    (events : p.events ≡ record { items = []; spare = 1; is_shown = false; looks = 0 }) (vm_ticks : p.vm_ticks.items ≡ []) (ring : p.ring ≡ record { items = []; places = PLACES; is_held = false; fulls = 0; empties = 0 }) where
   legal_now : IsLegalItems raised.raised
   legal_now = legal_at i.progress.ending funcs raised.moment i.progress raised.raised raised.kept.stands
 
@@ -41,19 +41,19 @@ module _ {S : Type 0} (funcs : List Func) (config : IsoConfig) (i : PlainIsolate
   pub between_first : (before : Option Parts) → IsBetween config.base [] raised.raised before before i p
   between_first before = record { legal = legal_now; hold = raised.hold; settled = settled_first before }
 
-  pub alike_first : AreAlike i.progress.schedule.ring i.progress.ending i p
+  pub alike_first : AreAlike i.progress.ending i p
   alike_first = record {
     spare = λ on. raised.spare;
     spare_taken = λ on. ap (λ (q : QueueValue EventRecord). q.spare) events;
-    places_are = raised.places ∙ sym (ap (λ (q : Progress). q.schedule.ring) raised.progress);
-    places_taken = ap (λ (r : RingValue). r.places) ring ∙ sym (ap (λ (q : Progress). q.schedule.ring) raised.progress);
+    places_are = raised.places;
+    places_taken = ap (λ (r : RingValue). r.places) ring;
   }
 
   module _ (before now : Outlet) (p2 : PlainProcessor S) (fine : p.course.filing.delivery ≡ Fine) (refusing : GoesOnTo p.course.filing p2.course.filing before.aborts before.faults now.aborts now.faults)
       (size : now.chunk_bytes ≡ before.chunk_bytes) where
-    opened_with : (ends : Ends (QueueValue EventRecord) (QueueValue Tick) TurnRing) → IsHanded config.base ([] ++ raised.raised) before.parts now.parts (record i { ends = ends }) p2
-        → AreAlike i.progress.schedule.ring i.progress.ending (record i { ends = ends }) p2 → HasOpened funcs config before now (record i { ends = ends }) p2
-    opened_with ends handed alike = record {
+    opened_with : (ends : Ends (QueueValue EventRecord) (QueueValue Tick) TurnRing) → ends.ring.refuses ≡ false → IsHanded config.base ([] ++ raised.raised) before.parts now.parts (record i { ends = ends }) p2
+        → AreAlike i.progress.ending (record i { ends = ends }) p2 → HasOpened funcs config before now (record i { ends = ends }) p2
+    opened_with ends takes handed alike = record {
       moment = raised.moment;
       raised = raised.raised;
       way = record {
@@ -72,12 +72,13 @@ module _ {S : Type 0} (funcs : List Func) (config : IsoConfig) (i : PlainIsolate
         };
       };
       progress = raised.progress;
+      takes = takes;
     }
 
     -- once it is taken
-    pub has_opened : (i2 : PlainIsolate) → i2 ≡ record i { ends = i2.ends } → IsHanded config.base ([] ++ raised.raised) before.parts now.parts i2 p2 → AreAlike i.progress.schedule.ring i.progress.ending i2 p2
+    pub has_opened : (i2 : PlainIsolate) → i2 ≡ record i { ends = i2.ends } → i2.ends.ring.refuses ≡ i.ends.ring.refuses → IsHanded config.base ([] ++ raised.raised) before.parts now.parts i2 p2 → AreAlike i.progress.ending i2 p2
         → HasOpened funcs config before now i2 p2
-    has_opened i2 same handed alike =
+    has_opened i2 same refuses handed alike =
         subst (λ (x : PlainIsolate). HasOpened funcs config before now x p2) (sym same)
-        (opened_with i2.ends (subst (λ (x : PlainIsolate). IsHanded config.base ([] ++ raised.raised) before.parts now.parts x p2) same handed)
-        (subst (λ (x : PlainIsolate). AreAlike i.progress.schedule.ring i.progress.ending x p2) same alike))
+        (opened_with i2.ends (refuses ∙ raised.takes) (subst (λ (x : PlainIsolate). IsHanded config.base ([] ++ raised.raised) before.parts now.parts x p2) same handed)
+        (subst (λ (x : PlainIsolate). AreAlike i.progress.ending x p2) same alike))

@@ -18,7 +18,8 @@ use Rattle.processor.specs.Plain.{GoesOn}
 use Rattle.processor.specs.Settling.{IsAmid, IsSettled}
 use Rattle.processor.specs.TakingLaws.{HoldRest}
 use Rattle.one_thread.specs.UnderWay.{AreEmpty}
-use Rattle.one_thread.proofs.Rings.{fewer_joined, none_raised}
+use Rattle.one_thread.proofs.Offered.{hits_in, joined_hits}
+use Rattle.one_thread.proofs.Rings.{none_raised}
 
 pub stamped_at : (ending : Option EndCause) (funcs : List Func) (moment : Moment) (p : Progress) (raised : List Item) → StandsAt ending funcs moment p raised → IsStamped raised
 stamped_at None funcs moment p raised stands = stands.raised_is.stamped
@@ -46,9 +47,10 @@ module _ (more : List Item) (events events' : List EventRecord) (vm_ticks vm_tic
   pub hold_more : (raised : List Item) → IsStamped (raised ++ more) → HoldRest raised more events' vm_ticks' ring'
   hold_more raised stamped = record { stamped = stamped; events_are = only_more events events' (events_of more) none.no_event got.events; ticks_are = joined_more }
 
-  -- the ring has no more ticks than were raised
-  pub few_more : length ring' ≤ length (ticks_of more)
-  few_more = fewer_joined vm_ticks' ring' (ticks_of more) joined_more
+  -- the ring holds as many ticks as hits were raised
+  pub hits_more : hits_in (ticks_of more) ≡ length ring'
+  hits_more =
+      joined_hits got.vm_more got.ring_more (ticks_of more) got.no_hits got.hits got.joined ∙ sym (ap length (only_more ring ring' got.ring_more none.no_sample got.ring))
 
 -- queues that hold the rest of nothing hold nothing
 pub empty_rest : (items : List Item) (events : List EventRecord) (vm_ticks ring : List Tick) → HoldRest items [] events vm_ticks ring → AreEmpty events vm_ticks ring

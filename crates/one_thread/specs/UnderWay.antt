@@ -8,14 +8,14 @@ use Rattle.code_event.specs.declared.tick.Item.{Item}
 use Rattle.code_event.specs.declared.tick.Tick.{Tick}
 use Rattle.out_stream.specs.Parts.{Parts}
 use Rattle.pipe_core.specs.Plain.{QueueValue, RingValue}
-use Rattle.pipe_core.specs.Stamps.{ticks_of}
 use Rattle.run_schedule.specs.ScheduleParts.{ScheduleParts}
 use Rattle.run_schedule.specs.declared.schedule.EndCause.{EndCause}
 use Rattle.isolate_acts.specs.Acts.{Act, calls_on, moment_on, progress_on, raised_on}
 use Rattle.isolate_acts.specs.Calls.{Call, with_calls}
 use Rattle.isolate_acts.specs.Phases.{Phase, LeadTo, IsOver, first_phase}
 use Rattle.isolate_acts.specs.Progress.{Moment, Progress}
-use Rattle.isolate_ends.specs.Runs.{Adds, Answers}
+use Rattle.isolate_ends.specs.Offered.{AreOffered}
+use Rattle.isolate_ends.specs.Runs.{Answers}
 use Rattle.isolate_ends.specs.declared.turn.IsoTurn.{IsoTurn}
 use Rattle.isolate_turns.specs.Kept.{IsKept}
 use Rattle.isolate_turns.specs.Ready.{IsIsolate, IsNow}
@@ -26,6 +26,7 @@ use Rattle.processor.specs.Processor.{ProcessorParts}
 use Rattle.processor.specs.Settling.{IsSettled}
 use Rattle.processor.specs.TakingLaws.{HoldRest}
 use Rattle.processor.specs.declared.turn.Delivery.TheVariants.{Aborted, Failed}
+use Rattle.one_thread.specs.declared.ring.TheConstants.{PLACES}
 use Rattle.one_thread.specs.declared.ring.TurnRing.{TurnRing}
 
 -- the isolate, and the processor, over the queues of one thread
@@ -56,12 +57,12 @@ pub record AreEmpty (events : List EventRecord) (vm_ticks ring : List Tick) : Ty
   pub no_vm_tick : vm_ticks ≡ []
   pub no_sample : ring ≡ []
 
--- both sides have rings of this many places, and until the end a spare place for its event
-pub record AreAlike {S : Type 0} (places : ℕ) (ending : Option EndCause) (isolate : PlainIsolate) (processor : PlainProcessor S) : Type 0 where
+-- both sides have rings of the same number of places, and until the end a spare place for its event
+pub record AreAlike {S : Type 0} (ending : Option EndCause) (isolate : PlainIsolate) (processor : PlainProcessor S) : Type 0 where
   pub spare : ending ≡ None → isolate.ends.events.spare ≡ 1
   pub spare_taken : ending ≡ None → processor.events.spare ≡ 1
-  pub places_are : isolate.ends.ring.ring.places ≡ places
-  pub places_taken : processor.ring.places ≡ places
+  pub places_are : isolate.ends.ring.ring.places ≡ PLACES
+  pub places_taken : processor.ring.places ≡ PLACES
 
 -- Between a turn of the isolate and those of the processor: the items of a legal list that were raised before are taken, and the isolate's queues hold what was raised since.
 pub record IsBetween {S : Type 0} (base : ℕ) (raised more : List Item) (before now : Option Parts) (isolate : PlainIsolate) (processor : PlainProcessor S) : Type 0 where
@@ -79,7 +80,7 @@ pub record IsUnderWay {S : Type 0} (base : ℕ) (funcs : List Func) (moment : Mo
   pub kept : IsKept funcs moment isolate.progress raised
   pub now_is : IsNow isolate.guest.machine isolate.progress isolate.printed.items moment
   pub ready : IsIsolate isolate.guest.machine isolate.progress
-  pub alike : AreAlike isolate.progress.schedule.ring isolate.progress.ending isolate processor
+  pub alike : AreAlike isolate.progress.ending isolate processor
   pub none_waits : AreEmpty isolate.ends.events.items isolate.ends.vm_ticks.items isolate.ends.ring.ring.items
   pub settled : IsSettled base raised processor.applied processor.ticked processor.course before.parts now.parts processor.events.items processor.vm_ticks.items processor.ring.items
   pub counted : IsCounted processor.course.filing before now
@@ -91,7 +92,7 @@ pub record SameHead (before after : ScheduleParts) : Type 0 where
   pub budget : after.budget ≡ before.budget
   pub limit : after.limit ≡ before.limit
 
--- A turn from one state to another: the acts that it did, what they came to, and that all items which they raised are taken. Samples were dropped only where the turn raised at least as many ticks as the ring has places.
+-- A turn from one state to another: the acts that it did, what they came to, and that all items which they raised are taken. A sample was dropped just where the ring refuses each.
 pub record HasTurned {S : Type 0} (base : ℕ) (funcs : List Func) (moment : Moment) (raised : List Item) (before now : Outlet) (old new : PlainIsolate) (processor : PlainProcessor S) (calls calls_now : Option (List Call)) (answer : IsoTurn) : Type 0 where
   pub last : Phase
   pub acts : List Act
@@ -101,9 +102,8 @@ pub record HasTurned {S : Type 0} (base : ℕ) (funcs : List Func) (moment : Mom
   pub head : SameHead old.progress.schedule new.progress.schedule
   pub calls_are : calls_now ≡ with_calls calls (calls_on moment old.progress acts)
   pub answers : Answers answer new.progress.ending
-  pub dropped : ℕ
-  pub adds : Adds old.progress.schedule.entries new.progress.schedule.entries dropped
-  pub full : 0 < dropped → old.progress.schedule.ring ≤ length (ticks_of (raised_on moment old.progress acts))
+  pub offered : AreOffered old.ends.ring.refuses acts
+  pub refuses : new.ends.ring.refuses ≡ old.ends.ring.refuses
   pub way : IsUnderWay base funcs (moment_on moment acts) (raised ++ raised_on moment old.progress acts) before now new processor
 
 -- before the first turn: nothing was entered
@@ -128,7 +128,8 @@ pub record HasRaised (funcs : List Func) (config : IsoConfig) (isolate : PlainIs
   pub progress : isolate.progress ≡ first_progress config
   pub hold : HoldRest [] raised isolate.ends.events.items isolate.ends.vm_ticks.items isolate.ends.ring.ring.items
   pub spare : isolate.ends.events.spare ≡ 1
-  pub places : isolate.ends.ring.ring.places ≡ config.ring
+  pub places : isolate.ends.ring.ring.places ≡ PLACES
+  pub takes : isolate.ends.ring.refuses ≡ false
 
 -- an isolate and a processor that were just opened, which has taken that event
 pub record HasOpened {S : Type 0} (funcs : List Func) (config : IsoConfig) (before now : Outlet) (isolate : PlainIsolate) (processor : PlainProcessor S) : Type 0 where
@@ -136,3 +137,4 @@ pub record HasOpened {S : Type 0} (funcs : List Func) (config : IsoConfig) (befo
   pub raised : List Item
   pub way : IsUnderWay config.base funcs moment raised before now isolate processor
   pub progress : isolate.progress ≡ first_progress config
+  pub takes : isolate.ends.ring.refuses ≡ false

@@ -6,4 +6,4 @@ mod one_thread;
 mod ring;
 
 pub use one_thread::OneThread;
-pub use ring::TurnRing;
+pub use ring::{PLACES, TurnRing};

@@ -12,11 +12,13 @@ ghost use Rattle.processor.specs.Course.{StandsFor};
 ghost use Rattle.processor.specs.Filing.{answer_of};
 ghost use Rattle.processor.specs.Settling.{GoesOnTo, IsSettled};
 ghost use Rattle.processor.specs.TakingLaws.{HoldRest};
+ghost use Rattle.one_thread.specs.declared.ring.TheConstants.{PLACES};
 ghost use Rattle.one_thread.specs.UnderWay.{AreAlike, AreEmpty, HasOpened, HasRaised, HasTurned, IsBetween, IsHanded, IsUnderWay, Outlet};
 
-use crate::ring::TurnRing;
+use crate::ring::{PLACES, TurnRing};
 use code_event::{EventRecord, Tick};
 use guest_program::Program;
+use history::History;
 use isolate_turns::{Ends, IsoConfig, IsoPorts, IsoTurn, Isolate};
 use item_fold::FileNote;
 use out_stream::{OutputStream, Undelivered};
@@ -44,6 +46,7 @@ impl<S: OutputStream> OneThread<S> {
         ensures samples { self.new.isolate.ends.ring.ring.items ≡ self.old.isolate.ends.ring.ring.items }
         ensures spare { self.new.isolate.ends.events.spare ≡ self.old.isolate.ends.events.spare }
         ensures places { self.new.isolate.ends.ring.ring.places ≡ self.old.isolate.ends.ring.ring.places }
+        ensures refuses { self.new.isolate.ends.ring.refuses ≡ self.old.isolate.ends.ring.refuses }
         ensures nothing { result ≡ false → AreEmpty self.old.isolate.ends.events.items self.old.isolate.ends.vm_ticks.items self.old.isolate.ends.ring.ring.items }
     {
         let ends = self.isolate.ends();
@@ -61,7 +64,7 @@ impl<S: OutputStream> OneThread<S> {
 
     // Passes the isolate's queues on to the processor, whose queues the isolate gets.
     fn pass_on(&mut self)
-        ensures isolate { self.new.isolate ≡ record self.old.isolate { ends = record { events = self.old.processor.events; vm_ticks = self.old.processor.vm_ticks; ring = record { ring = self.old.processor.ring } } } }
+        ensures isolate { self.new.isolate ≡ record self.old.isolate { ends = record { events = self.old.processor.events; vm_ticks = self.old.processor.vm_ticks; ring = record self.old.isolate.ends.ring { ring = self.old.processor.ring } } } }
         ensures processor { self.new.processor ≡ record self.old.processor { events = self.old.isolate.ends.events; vm_ticks = self.old.isolate.ends.vm_ticks; ring = self.old.isolate.ends.ring.ring } }
     {
         let ends = self.isolate.ends();
@@ -77,7 +80,8 @@ impl<S: OutputStream> OneThread<S> {
         ensures isolate { self.new.isolate ≡ record self.old.isolate { ends = self.new.isolate.ends } }
         ensures handed { (base : ℕ) (raised more : List Item) (before : Option Parts) → IsBetween base raised more before (S.parts self.old.processor.stream) self.old.isolate self.old.processor
             → IsHanded base (raised ++ more) before (S.parts self.new.processor.stream) self.new.isolate self.new.processor }
-        ensures alike { (places : ℕ) (ending : Option EndCause) → AreAlike places ending self.old.isolate self.old.processor → AreAlike places ending self.new.isolate self.new.processor }
+        ensures alike { (ending : Option EndCause) → AreAlike ending self.old.isolate self.old.processor → AreAlike ending self.new.isolate self.new.processor }
+        ensures refuses { self.new.isolate.ends.ring.refuses ≡ self.old.isolate.ends.ring.refuses }
         ensures refusing { GoesOnTo self.old.processor.course.filing self.new.processor.course.filing (S.aborts self.old.processor.stream) (S.stream_faults self.old.processor.stream) (S.aborts self.new.processor.stream) (S.stream_faults self.new.processor.stream) }
         ensures chunk_size { S.chunk_bytes self.new.processor.stream ≡ S.chunk_bytes self.old.processor.stream }
     {
@@ -107,7 +111,9 @@ impl<S: OutputStream> OneThread<S> {
             events: PlainQueue::new(alloc)?,
             vm_ticks: PlainQueue::new(alloc)?,
             ring: TurnRing {
-                ring: PlainRing::new(alloc, config.ring)?,
+                ring: PlainRing::new(alloc, PLACES)?,
+                refuses: false,
+                refused: History::new(),
             },
         };
         Isolate::new(alloc, program, config, ends)
@@ -121,14 +127,12 @@ impl<S: OutputStream> OneThread<S> {
     ) -> Result<Processor<PlainQueue<EventRecord>, PlainQueue<Tick>, PlainRing, S>, S>
         requires base_low { 1 ≤ config.base }
         requires base_high { config.base ≤ MAX_INTERVAL }
-        requires ring_low { 1 ≤ config.ring }
-        requires ring_high { config.ring ≤ MAX_RING }
         ensures stands { IfOk result (λ p. (before : Option Parts) → StandsFor config.base [] p.applied p.ticked p.course before before) }
         ensures phase { IfOk result (λ p. p.course.phase ≡ Phase.Open) }
         ensures delivery { IfOk result (λ p. p.course.filing.delivery ≡ Delivery.Fine) }
         ensures events { IfOk result (λ p. p.events ≡ record { items = []; spare = 1; is_shown = false; looks = 0 }) }
         ensures vm_ticks { IfOk result (λ p. p.vm_ticks.items ≡ []) }
-        ensures ring { IfOk result (λ p. p.ring ≡ record { items = []; places = config.ring; is_held = false; fulls = 0; empties = 0 }) }
+        ensures ring { IfOk result (λ p. p.ring ≡ record { items = []; places = PLACES; is_held = false; fulls = 0; empties = 0 }) }
         ensures stream { IfOk result (λ p. p.stream ≡ stream) }
         ensures back { IfErr result (λ s. s ≡ stream) }
     {
@@ -138,7 +142,7 @@ impl<S: OutputStream> OneThread<S> {
         let Ok(vm_ticks) = PlainQueue::new(alloc) else {
             return Err(stream);
         };
-        let Ok(ring) = PlainRing::new(alloc, config.ring) else {
+        let Ok(ring) = PlainRing::new(alloc, PLACES) else {
             return Err(stream);
         };
         Processor::new(alloc, config.base, events, vm_ticks, ring, stream)
@@ -173,6 +177,17 @@ impl<S: OutputStream> OneThread<S> {
         let mut thread = OneThread { isolate, processor };
         thread.hand_on(&mut NoPorts);
         Ok(thread)
+    }
+
+    /// Has the ring refuse each sample that is offered from now on, as if its slot were still full, or
+    /// take each.
+    pub fn refuse_samples(&mut self, refuses: bool)
+        ensures isolate { self.new.isolate ≡ record self.old.isolate { ends = record self.old.isolate.ends { ring = record self.old.isolate.ends.ring { refuses = refuses } } } }
+        ensures processor { self.new.processor ≡ self.old.processor }
+        ensures way { (base : ℕ) (funcs : List Func) (moment : Moment) (raised : List Item) (before now : Outlet)
+            → IsUnderWay base funcs moment raised before now self.old.isolate self.old.processor → IsUnderWay base funcs moment raised before now self.new.isolate self.new.processor }
+    {
+        self.isolate.ends().ring.refuses = refuses;
     }
 
     /// Does a turn of the isolate, and passes on what it has raised, if anything, until the processor has

@@ -21,6 +21,7 @@ use Rattle.isolate_acts.specs.FitsSoFar.{FitsSoFar}
 use Rattle.isolate_acts.specs.Phases.{Phase, at_port, asking, sampling, stepping, closing, must_end, MayAct, IsDue, IsRefused, after_command, after_ports, unless_ended}
 use Rattle.isolate_acts.specs.Progress.{Moment, Progress, IsWithin, entry_count, entry_now, entry_time, is_filled, running_now}
 use Rattle.isolate_acts.specs.Sampling.{after_sample}
+use Rattle.isolate_ends.specs.Offered.{IsOffered}
 use Rattle.step_clock.specs.ClockCalls.{begun_on}
 use Rattle.step_clock.specs.ClockTurns.{IsClockEnd}
 use Rattle.step_clock.specs.StepClock.{IsWholeRecording, entry_at, entries_before, is_asked, last_step}
@@ -28,7 +29,7 @@ use Rattle.step_clock.proofs.Clock.{last_pushed}
 use Rattle.step_clock.proofs.ClockCalled.{EachByClock}
 use Rattle.step_clock.proofs.ClockEnds.{due_within, ends_on_clock, full_on_clock}
 use Rattle.step_clock.proofs.ClockEntries.{entry_is, last_before, same_next, sampled_next}
-use Rattle.step_clock.proofs.ClockPhases.{Entered, IsAt, DropsNone, given_is, none_given, same_options, on_true, or_true, after_ports_on, after_command_on, unless_full}
+use Rattle.step_clock.proofs.ClockPhases.{Entered, IsAt, given_is, none_given, same_options, on_true, or_true, after_ports_on, after_command_on, unless_full}
 
 zero_first : (n : ℕ) → 0 ≤ n
 zero_first n = omega arith
@@ -204,7 +205,7 @@ module _ (r : Options) (moment : Moment) (p : Progress) (whole : IsWholeRecordin
 
 -- an act that may come
 pub act_on : (r : Options) (begun : Bool) (moment : Moment) (p : Progress) (phase next : Phase) (act : Act) → IsWholeRecording r.interval r → IsWithin p → p.step < 2 ^ 53
-    → (p.ending ≡ None → FitsSoFar moment.funcs moment p phase) → MayAct moment p phase act next → EachByClock r begun (act_calls moment p act) → DropsNone act → IsAt r begun moment p phase
+    → (p.ending ≡ None → FitsSoFar moment.funcs moment p phase) → MayAct moment p phase act next → EachByClock r begun (act_calls moment p act) → IsOffered false act → IsAt r begun moment p phase
     → IsAt r (begun_on begun (act_calls moment p act)) (moment_after moment act) (act_after moment p act) next
 act_on r begun moment p (at_port port commands) next (passes from) whole within small fits may by taken at =
     pass_on r moment p whole within small begun port commands from next may.0 may.1 by.0 at

@@ -19,9 +19,10 @@ use Rattle.isolate_acts.proofs.Ending.{nothing_follows}
 use Rattle.isolate_acts.specs.Acts.{Act, passes, starts, stops, refuses, cuts_off, asks, samples, steps, ends, ends_short, act_after, act_calls, act_raises, calls_on, cut_marks, given_up_ticks, moment_after, numbered, progress_on, raised_on}
 use Rattle.isolate_acts.specs.Phases.{Phase, at_port, asking, sampling, stepping, closing, must_end, LeadTo, MayAct, first_phase}
 use Rattle.isolate_acts.specs.Progress.{Moment, Progress, entry_time}
-use Rattle.step_clock.specs.ClockCalls.{begun_on}
+use Rattle.port_calls.proofs.Answering.{first_calls, later_calls}
+use Rattle.step_clock.specs.ClockCalls.{begun_after, begun_on}
 use Rattle.step_clock.specs.ClockTurns.{TurnsLeaveNoFile}
-use Rattle.step_clock.proofs.ClockCalled.{EachByClock, each_by_clock, first_calls, later_calls}
+use Rattle.step_clock.proofs.ClockCalled.{EachByClock, IsByClock, each_by_clock}
 use Rattle.step_clock.proofs.ClockPhases.{given_is}
 
 code_leaves_none : (e : CodeEvent) → IsCodeEvent e → LeavesNoFile e
@@ -104,8 +105,8 @@ run_none r begun moment p phase last (act ∷ acts) lead by none =
     let calls = act_calls moment p act in
     let more = calls_on then_ after acts in
     all_joined ItemLeavesNoFile (act_raises moment p act) (raised_on then_ after acts)
-    (act_none r begun moment p phase lead.0 act lead.1 (first_calls r begun calls more by) (no_other then_ after lead.0 last acts lead.2 none))
-    (run_none r (begun_on begun calls) then_ after lead.0 last acts lead.2 (later_calls r begun calls more by) none)
+    (act_none r begun moment p phase lead.0 act lead.1 (first_calls (IsByClock r) begun_after begun calls more by) (no_other then_ after lead.0 last acts lead.2 none))
+    (run_none r (begun_on begun calls) then_ after lead.0 last acts lead.2 (later_calls (IsByClock r) begun_after begun calls more by) none)
 
 pub no_file : TurnsLeaveNoFile
 no_file r begun moment p acts last turn none = run_none r begun moment p (first_phase p) last acts turn.follow (each_by_clock r begun (calls_on moment p acts) turn.by_clock) none

@@ -31,11 +31,6 @@ pub record IsAt (r : Options) (begun : Bool) (moment : Moment) (p : Progress) (p
   pub below : p.ending ≡ None → ¬ (phase ≡ closing) → p.step < p.schedule.budget
   pub ended : ¬ (p.ending ≡ None) → IsClockEnd r.interval moment p
 
--- no sample is dropped
-abbrev pub DropsNone : Act → Type 0
-DropsNone (samples now is_in) = is_in ≡ true
-DropsNone other = Unit {0}
-
 -- the recording is begun by the first command that port 0 is asked for, and no other command is given
 pub record IsGiven (begun is_first : Bool) (given : Command) (r : Options) : Type 0 where
   pub not_yet : begun ≡ false

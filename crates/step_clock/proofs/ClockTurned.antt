@@ -14,60 +14,14 @@ use Rattle.isolate_acts.specs.Acts.{Act, passes, starts, stops, refuses, cuts_of
 use Rattle.isolate_acts.specs.FitsSoFar.{FitsSoFar}
 use Rattle.isolate_acts.specs.Phases.{Phase, at_port, stepping, closing, must_end, over, LeadTo, IsOver, first_phase}
 use Rattle.isolate_acts.specs.Progress.{Moment, Progress, IsWithin, entry_now, goes_on, is_filled}
-use Rattle.isolate_ends.specs.Runs.{Adds, is_dropped}
-use Rattle.step_clock.specs.ClockCalls.{begun_on}
+use Rattle.isolate_ends.specs.Offered.{AreOffered}
+use Rattle.port_calls.proofs.Answering.{first_calls, later_calls, state_on-append}
+use Rattle.step_clock.specs.ClockCalls.{begun_after, begun_on}
 use Rattle.step_clock.specs.ClockTurns.{IsClockTurn, IsOnClock, TurnsStayOnClock}
 use Rattle.step_clock.specs.StepClock.{IsWholeRecording, entries_before}
 use Rattle.step_clock.proofs.ClockActs.{act_on}
-use Rattle.step_clock.proofs.ClockCalled.{EachByClock, each_by_clock, begun_on-append, first_calls, later_calls}
-use Rattle.step_clock.proofs.ClockPhases.{DropsNone, IsAt}
-
--- the number of samples that were dropped
-abbrev dropped_in : List ScheduleEntry → ℕ
-dropped_in entries = count_by (λ entry. is_dropped entry.what) entries
-
-dropped_in-append : (xs ys : List ScheduleEntry) → dropped_in (xs ++ ys) ≡ dropped_in xs + dropped_in ys
-dropped_in-append xs ys = sum_by-append (λ entry. cond (is_dropped entry.what) 1 0) xs ys
-
-one_more : (entries : List ScheduleEntry) (entry : ScheduleEntry) → dropped_in entries ≤ dropped_in (entries ++ entry ∷ [])
-one_more entries entry = omega (arith, dropped_in-append entries (entry ∷ []))
-
-same_le : (n : ℕ) → n ≤ n
-same_le n = omega arith
-
-act_drops : (moment : Moment) (p : Progress) (act : Act) → dropped_in p.schedule.entries ≤ dropped_in (act_after moment p act).schedule.entries
-act_drops moment p (passes port) = same_le (dropped_in p.schedule.entries)
-act_drops moment p (starts options now is_taken) = one_more p.schedule.entries _
-act_drops moment p (stops port number now is_taken) = one_more p.schedule.entries _
-act_drops moment p (refuses port given why is_taken) = same_le (dropped_in p.schedule.entries)
-act_drops moment p (cuts_off port given is_marked now is_taken) = one_more p.schedule.entries _
-act_drops moment p (asks is_asked) = same_le (dropped_in p.schedule.entries)
-act_drops moment p (samples now true) = one_more p.schedule.entries _
-act_drops moment p (samples now false) = one_more p.schedule.entries _
-act_drops moment p (steps after events) = same_le (dropped_in p.schedule.entries)
-act_drops moment p (ends why now) = one_more p.schedule.entries _
-act_drops moment p (ends_short events now) = one_more p.schedule.entries _
-
-run_drops : (moment : Moment) (p : Progress) (acts : List Act) → dropped_in p.schedule.entries ≤ dropped_in (progress_on moment p acts).schedule.entries
-run_drops moment p [] = same_le (dropped_in p.schedule.entries)
-run_drops moment p (act ∷ acts) =
-    let one = act_drops moment p act in
-    let rest = run_drops (moment_after moment act) (act_after moment p act) acts in
-    omega (arith, one, rest)
-
--- an act drops none, where the entries after it have no more dropped samples than those before it
-none_dropped : (moment : Moment) (p : Progress) (act : Act) → dropped_in (act_after moment p act).schedule.entries ≤ dropped_in p.schedule.entries → DropsNone act
-none_dropped moment p (samples now true) few = refl
-none_dropped moment p (samples now false) few = absurd (omega (arith, few, dropped_in-append p.schedule.entries (entry_now p now Dropped ∷ [])))
-none_dropped moment p (passes port) few = tt
-none_dropped moment p (starts options now is_taken) few = tt
-none_dropped moment p (stops port number now is_taken) few = tt
-none_dropped moment p (refuses port given why is_taken) few = tt
-none_dropped moment p (cuts_off port given is_marked now is_taken) few = tt
-none_dropped moment p (asks is_asked) few = tt
-none_dropped moment p (steps after events) few = tt
-none_dropped moment p (ends why now) few = tt
-none_dropped moment p (ends_short events now) few = tt
+use Rattle.step_clock.proofs.ClockCalled.{EachByClock, IsByClock, each_by_clock}
+use Rattle.step_clock.proofs.ClockPhases.{IsAt}
 
 small_step : (p : Progress) → IsWithin p → p.step < 2 ^ 53
 small_step p within =
@@ -82,21 +36,18 @@ own_program funcs moment p phase fits going = subst (λ (f : List Func). FitsSoF
 
 pub run_on : (r : Options) (funcs : List Func) (begun : Bool) (moment : Moment) (p : Progress) (phase last : Phase) (acts : List Act) → IsWholeRecording r.interval r → IsWithin p
     → FitsSoFar funcs moment p phase → LeadTo moment p phase acts last → EachByClock r begun (calls_on moment p acts)
-    → dropped_in (progress_on moment p acts).schedule.entries ≤ dropped_in p.schedule.entries → IsAt r begun moment p phase
+    → AreOffered false acts → IsAt r begun moment p phase
     → IsAt r (begun_on begun (calls_on moment p acts)) (moment_on moment acts) (progress_on moment p acts) last
-run_on r funcs begun moment p phase last [] whole within fits lead by few at = subst (IsAt r begun moment p) (sym lead) at
-run_on r funcs begun moment p phase last (act ∷ acts) whole within fits lead by few at =
+run_on r funcs begun moment p phase last [] whole within fits lead by taken at = subst (IsAt r begun moment p) (sym lead) at
+run_on r funcs begun moment p phase last (act ∷ acts) whole within fits lead by taken at =
     let then_ = moment_after moment act in
     let after = act_after moment p act in
     let calls = act_calls moment p act in
     let more = calls_on then_ after acts in
-    let rest = run_drops then_ after acts in
-    let one = act_drops moment p act in
-    let taken = none_dropped moment p act (omega (arith, rest, few)) in
-    let next = act_on r begun moment p phase lead.0 act whole within (small_step p within) (own_program funcs moment p phase fits) lead.1 (first_calls r begun calls more by) taken at in
-    subst (λ (b : Bool). IsAt r b (moment_on then_ acts) (progress_on then_ after acts) last) (sym (begun_on-append begun calls more))
+    let next = act_on r begun moment p phase lead.0 act whole within (small_step p within) (own_program funcs moment p phase fits) lead.1 (first_calls (IsByClock r) begun_after begun calls more by) taken.0 at in
+    subst (λ (b : Bool). IsAt r b (moment_on then_ acts) (progress_on then_ after acts) last) (sym (state_on-append begun_after begun calls more))
     (run_on r funcs (begun_on begun calls) then_ after lead.0 last acts whole (acts_within moment p phase lead.0 act within lead.1) (acts_fit funcs moment p phase lead.0 act fits lead.1) lead.2
-    (later_calls r begun calls more by) (omega (arith, few, one)) next)
+    (later_calls (IsByClock r) begun_after begun calls more by) taken.1 next)
 
 none_sampled : (p : Progress) → p.is_sampled ≡ false → first_phase p ≡ at_port 0 0
 none_sampled p fresh = ap (λ (b : Bool). if b then (if is_filled p then must_end over else stepping) else at_port 0 0) (neither (goes_on p) p.is_sampled fresh) where
@@ -133,17 +84,11 @@ turned r begun moment p closing is at = record {
 turned r begun moment p over is at = record { goes = λ going. absurd (is going); has_begun = λ going. absurd (is going); ends = at.ended }
 turned r begun moment p last is at = absurd is
 
-added_none : (before after : List ScheduleEntry) → Adds before after 0 → dropped_in after ≤ dropped_in before
-added_none before after adds =
-    let all : dropped_in after ≡ dropped_in before + dropped_in adds.more = ap dropped_in adds.added ∙ dropped_in-append before adds.more in
-    let none = adds.dropped_are in
-    omega (arith, all, none)
-
 pub turns_stay : TurnsStayOnClock
-turns_stay r begun moment p acts last turn none =
+turns_stay r begun moment p acts last turn taken =
     turned r (begun_on begun (calls_on moment p acts)) (moment_on moment acts) (progress_on moment p acts) last turn.over
     (run_on r moment.funcs begun moment p (first_phase p) last acts turn.whole turn.within turn.fits turn.follow (each_by_clock r begun (calls_on moment p acts) turn.by_clock)
-    (added_none p.schedule.entries (progress_on moment p acts).schedule.entries none) (begins r begun moment p turn.on_clock))
+    taken (begins r begun moment p turn.on_clock))
 
 -- an isolate that opens is on the clock
 pub new_on_clock : (r : Options) (p : Progress) → p.ending ≡ None → p.is_sampled ≡ false → p.step ≡ 0 → p.schedule.entries ≡ [] → 2 ≤ p.schedule.limit → 1 ≤ p.schedule.budget → IsOnClock r false p

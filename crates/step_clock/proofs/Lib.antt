@@ -1,11 +1,9 @@
 pub mod Clock
 pub mod ClockOnce
-pub mod ClockPorts
 pub mod ClockCalled
 pub mod ClockEntries
 pub mod ClockEnds
 pub mod ClockPhases
 pub mod ClockActs
 pub mod ClockTurned
-pub mod ClockTicks
 pub mod ClockFiles

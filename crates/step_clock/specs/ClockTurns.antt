@@ -1,18 +1,17 @@
 -- The turns of an isolate on the step clock.
-use Rattle.std.specs.Prelude.{◌≡◌, ℕ, ◌<◌, ◌≤◌, List, [], ◌∷◌, ◌++◌, length, Bool, true, false, Some, None, if◌then◌else◌}
+use Rattle.std.specs.Prelude.{◌≡◌, ℕ, ◌<◌, ◌≤◌, List, [], ◌∷◌, ◌++◌, Bool, true, false, Some, None, if◌then◌else◌}
 use Rattle.std.specs.List.{AllByRecursion}
 use Rattle.code_event.specs.declared.event.Options.{Options}
 use Rattle.run_schedule.specs.declared.schedule.EndCause.{EndCause}
 use Rattle.run_schedule.specs.declared.schedule.EndCause.TheVariants as cause
 use Rattle.run_schedule.specs.declared.schedule.ScheduleEntry.{ScheduleEntry}
 use Rattle.run_schedule.specs.declared.schedule.What.TheVariants.{End}
-use Rattle.pipe_core.specs.Stamps.{ticks_of}
 use Rattle.raised_so_far.specs.FileOrder.{ItemLeavesNoFile}
 use Rattle.isolate_acts.specs.Acts.{Act, calls_on, moment_on, progress_on, raised_on}
 use Rattle.isolate_acts.specs.FitsSoFar.{FitsSoFar}
 use Rattle.isolate_acts.specs.Phases.{Phase, LeadTo, IsOver, first_phase}
 use Rattle.isolate_acts.specs.Progress.{Moment, Progress, IsWithin, is_filled}
-use Rattle.isolate_ends.specs.Runs.{Adds}
+use Rattle.isolate_ends.specs.Offered.{AreOffered}
 use Rattle.step_clock.specs.ClockCalls.{AreByClock, begun_on}
 use Rattle.step_clock.specs.StepClock.{IsStepClock, IsWholeRecording, entries_before}
 
@@ -55,13 +54,7 @@ pub record MakesTurn (recording : Options) (begun : Bool) (moment : Moment) (p :
 abbrev pub TurnsStayOnClock : Type 0
 TurnsStayOnClock =
     (recording : Options) (begun : Bool) (moment : Moment) (p : Progress) (acts : List Act) (last : Phase) → MakesTurn recording begun moment p acts last
-    → Adds p.schedule.entries (progress_on moment p acts).schedule.entries 0 → IsClockTurn recording (begun_on begun (calls_on moment p acts)) (moment_on moment acts) (progress_on moment p acts)
-
--- each such turn raises at most three ticks: that of the start, a sample, and that of a deoptimisation
-abbrev pub TurnsRaiseFewTicks : Type 0
-TurnsRaiseFewTicks =
-    (recording : Options) (begun : Bool) (moment : Moment) (p : Progress) (acts : List Act) (last : Phase) → MakesTurn recording begun moment p acts last
-    → length (ticks_of (raised_on moment p acts)) ≤ 3
+    → AreOffered false acts → IsClockTurn recording (begun_on begun (calls_on moment p acts)) (moment_on moment acts) (progress_on moment p acts)
 
 -- each such turn raises no stop, and no finish with files, unless the isolate ends in it for another cause than out of memory
 abbrev pub TurnsLeaveNoFile : Type 0

@@ -2,4 +2,3 @@ pub mod StepClock
 pub mod ClockLaws
 pub mod ClockCalls
 pub mod ClockTurns
-pub mod ClockPorts

@@ -6,4 +6,4 @@
 pub mod laws;
 mod ports;
 
-pub use ports::{ClockCall, StepClock};
+pub use ports::StepClock;

@@ -2,42 +2,16 @@
 ghost use Rattle.std.specs.Prelude.{◌≡◌, ◌≤◌, ◌++◌, [], ◌∷◌, ◌&&◌, ◌||◌, ◌==◌, not, map, true, false, Some, None, if◌then◌else◌};
 ghost use Rattle.prof_base.specs.declared.interval.TheConstants.{MAX_INTERVAL};
 ghost use Rattle.code_event.specs.declared.event.Command.TheVariants as command;
+ghost use Rattle.port_calls.specs.PortCalls.{call_of};
 ghost use Rattle.step_clock.specs.ClockCalls.{AreByClock, as_answered, asks_port, begun_on};
-ghost use Rattle.step_clock.specs.ClockPorts.{call_of};
 ghost use Rattle.step_clock.specs.StepClock.{IsWholeRecording, is_asked};
 
 use code_event::{Answer, Command, Mode, Options};
 use history::History;
 use isolate_ends::IsoPorts;
+use port_calls::PortCall;
 use prof_base::{MAX_INTERVAL, Memory};
 use std::alloc::Global;
-
-/// A call of the ports, with what it returned. Only proofs read it.
-#[derive(Drop)]
-pub enum ClockCall {
-    Commanded {
-        port: u8,
-        step: u64,
-        given: Option<Command>,
-    },
-    Answered {
-        port: u8,
-        answer: Answer,
-        place: u32,
-        is_taken: bool,
-    },
-    Asked {
-        step: u64,
-        result: bool,
-    },
-    Read {
-        step: u64,
-        now: u64,
-    },
-    Told {
-        interval: u32,
-    },
-}
 
 /// The ports of a run on the step clock.
 #[derive(Drop)]
@@ -45,7 +19,7 @@ pub struct StepClock {
     /// The recording that port 0 starts: all samples at this interval.
     pub recording: Options,
     has_begun: bool,
-    pub history: History<ClockCall>,
+    pub history: History<PortCall>,
     pub ghost whole: { IsWholeRecording recording.interval recording },
     pub ghost begun: { has_begun ≡ begun_on false (map call_of history.items) },
     pub ghost by_clock: { AreByClock recording false (map call_of history.items) },
@@ -72,7 +46,7 @@ impl StepClock {
     }
 
     // Adds a call to the history, with which the recording has begun or not.
-    fn note(&mut self, call: ClockCall, has_begun: bool)
+    fn note(&mut self, call: PortCall, has_begun: bool)
         requires by_clock { call_of call ≡ as_answered self.old.recording self.old.has_begun (call_of call) }
         requires begun { has_begun ≡ (self.old.has_begun || asks_port (call_of call)) }
         ensures recording { self.new.recording ≡ self.old.recording }
@@ -98,7 +72,7 @@ impl IsoPorts for StepClock {
             None
         };
         let has_begun = self.has_begun || port == 0;
-        self.note(ClockCall::Commanded { port, step, given }, has_begun);
+        self.note(PortCall::Commanded { port, step, given }, has_begun);
         given
     }
 
@@ -109,7 +83,7 @@ impl IsoPorts for StepClock {
         answer: Answer,
         place: u32,
     ) -> Result<(), Memory> {
-        let call = ClockCall::Answered {
+        let call = PortCall::Answered {
             port,
             answer,
             place,
@@ -123,18 +97,18 @@ impl IsoPorts for StepClock {
     fn asked(&mut self, step: u64) -> bool {
         let result = step != 0 && step % u64::from(self.recording.interval) == 0;
         let has_begun = self.has_begun;
-        self.note(ClockCall::Asked { step, result }, has_begun);
+        self.note(PortCall::Asked { step, result }, has_begun);
         result
     }
 
     fn now(&mut self, step: u64) -> u64 {
         let has_begun = self.has_begun;
-        self.note(ClockCall::Read { step, now: step }, has_begun);
+        self.note(PortCall::Read { step, now: step }, has_begun);
         step
     }
 
     fn set_interval(&mut self, interval: u32) {
         let has_begun = self.has_begun;
-        self.note(ClockCall::Told { interval }, has_begun);
+        self.note(PortCall::Told { interval }, has_begun);
     }
 }

@@ -23,6 +23,6 @@ returns-clause-opened g c =
     let had = c.hand_on.ensures in
     let parts = g.S.OutputStream.parts p.stream in
     subst (λ (s : g.row.S.Denot). HasOpened funcs config (outlet s) (outlet new.processor.stream) new.isolate new.processor) made.stream
-    (has_opened funcs config i p raised made.stands made.phase made.events made.vm_ticks made.ring (outlet p.stream) (outlet new.processor.stream) new.processor made.delivery had.refusing had.chunk_size new.isolate had.isolate
+    (has_opened funcs config i p raised made.stands made.phase made.events made.vm_ticks made.ring (outlet p.stream) (outlet new.processor.stream) new.processor made.delivery had.refusing had.chunk_size new.isolate had.isolate had.refuses
     (had.handed config.base [] raised.raised parts (between_first funcs config i p raised made.stands made.phase made.events made.vm_ticks made.ring parts))
-    (had.alike i.progress.schedule.ring i.progress.ending (alike_first funcs config i p raised made.stands made.phase made.events made.vm_ticks made.ring)))
+    (had.alike i.progress.ending (alike_first funcs config i p raised made.stands made.phase made.events made.vm_ticks made.ring)))

@@ -29,7 +29,7 @@ returns-clause-turned g c base funcs moment raised before way =
     let p0 = c.args.self.now.processor in
     let answer = c.turn-answer.result in
     let went = c.turn-answer.ensures.goes moment way.now_is in
-    has_turned base funcs moment raised before now i0 i1 p0 _ _ answer way went c.hand_on.new.self.isolate c.hand_on.new.self.processor later c.hand_on.ensures.isolate c.turn-answer.ensures.whole c.turn-answer.ensures.ring_home
+    has_turned base funcs moment raised before now i0 i1 p0 _ _ answer way went c.hand_on.new.self.isolate c.hand_on.new.self.processor later c.hand_on.ensures.isolate c.turn-answer.ensures.whole c.turn-answer.ensures.ring_home c.hand_on.ensures.refuses
     c.turn-answer.ensures.drops (c.hand_on.ensures.handed base raised _ before.parts (between_now base funcs moment raised before now i0 i1 p0 _ _ answer way went))
-    (c.hand_on.ensures.alike _ _ (alike_now base funcs moment raised before now i0 i1 p0 _ _ answer way went c.turn-answer.ensures.going c.turn-answer.ensures.spare c.turn-answer.ensures.ring_home))
+    (c.hand_on.ensures.alike _ (alike_now base funcs moment raised before now i0 i1 p0 _ _ answer way went c.turn-answer.ensures.going c.turn-answer.ensures.spare c.turn-answer.ensures.ring_home))
     c.hand_on.ensures.refusing c.hand_on.ensures.chunk_size

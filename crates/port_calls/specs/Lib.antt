@@ -1,0 +1,3 @@
+pub mod PortCalls
+pub mod Answering
+pub mod AnswerLaws

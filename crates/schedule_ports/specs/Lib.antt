@@ -1,0 +1,3 @@
+pub mod ScheduleCalls
+pub mod ScheduleNumbers
+pub mod ScheduleTurns
