@@ -1,0 +1,3 @@
+mod Turn
+mod Replayed
+mod Begun
