@@ -10,3 +10,4 @@ mod Saying
 mod Named
 mod Ends
 mod Runs
+mod Completing

@@ -1,6 +1,7 @@
 pub mod Asked
 pub mod Causes
 pub mod Command
+pub mod Complete
 pub mod Ending
 pub mod HandedOut
 pub mod Outcome

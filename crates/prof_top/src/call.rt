@@ -1,12 +1,14 @@
 // The top call of the commands that need no thread.
-ghost use Rattle.std.specs.Prelude.{◌≡◌, ◌⊎◌, ◌≤◌, [], length, map, string_bytes};
+ghost use Rattle.std.specs.Prelude.{Some, ◌≡◌, ◌⊎◌, ◌≤◌, [], length, map, string_bytes};
 ghost use Rattle.std.specs.List.{AllByRecursion};
 ghost use Rattle.isolate.specs.Fits.{Fits};
+ghost use Rattle.prof_outer.specs.Files.{FileMap};
 ghost use Rattle.prof_base.specs.Causes.{Rose};
 ghost use Rattle.run_schedule.specs.Schedule.{IsLegalSchedule};
 ghost use Rattle.prof_top.specs.Asked.{Kind, AsksFor, AsksForKind, LacksFile, HoldsUnreadable, MayReadAll};
 ghost use Rattle.prof_top.specs.Causes.{IsEndedAs, outside};
 ghost use Rattle.prof_top.specs.Command.{IsCommand, AsksToRun};
+ghost use Rattle.prof_top.specs.Complete.{HasNoFault, IsComplete};
 ghost use Rattle.prof_top.specs.Ending.{status_of, IsDue, IsWorkEnding};
 ghost use Rattle.prof_top.specs.HandedOut.{outlets};
 ghost use Rattle.prof_top.specs.Outcome.{IsAfterWork, IsBeforeWork, IsWorked, HasOutcome};
@@ -221,6 +223,14 @@ pub fn cpuprof_once<D: Depot, O: Sink, E: Sink>(
     ensures outcome { HasOutcome (map string_bytes words.now) (D.held depot.old) result.status result.schedules
         (outlets (parts stream) (aborts stream) (stream_faults stream) (O.written out.old) (O.faults out.old) (D.write_faults depot.old))
         (outlets (parts result.stream) (aborts result.stream) (stream_faults result.stream) (O.written out.new) (O.faults out.new) (D.write_faults depot.new)) }
+
+    // Where the depot's files can be observed, the words are a line of the table, their texts are there
+    // and can be read, and no fault was counted: it was done, and the status is as it is due, or
+    // memory ran out.
+    ensures complete { (files : FileMap) → D.held depot.old ≡ Some files → IsCommand (map string_bytes words.now) → MayReadAll (D.held depot.old) (map string_bytes words.now)
+        → HasNoFault (outside (D.held depot.old) (D.misses depot.old) (D.read_faults depot.old) (aborts stream) (stream_faults stream) (O.faults out.old) (D.write_faults depot.old))
+        (outside (D.held depot.new) (D.misses depot.new) (D.read_faults depot.new) (aborts result.stream) (stream_faults result.stream) (O.faults out.new) (D.write_faults depot.new))
+        → IsComplete (map string_bytes words.now) (D.held depot.old) result.status result.schedules }
 
     // The schedule of a run.
     ensures ran { AsksToRun (map string_bytes words.now) → IsAfterWork result.status → length result.schedules ≡ 1 }

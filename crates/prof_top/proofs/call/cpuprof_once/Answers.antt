@@ -1,5 +1,6 @@
 use Rattle.std.proofs.Common.{inl, inr, map, string_bytes, sym, ◌∙◌}
 use Rattle.isolate.specs.Fits.{Fits}
+use Rattle.prof_top.proofs.Completing.{completes}
 use Rattle.prof_top.proofs.Ends.{refused_so, absent_so}
 use Rattle.prof_top.proofs.Outcomes.{all_legal, asks_to_run, at_most_one, each_of, none_before, one_after, outcome_with, run_or_none}
 use Rattle.prof_top.proofs.Lines.{readable_at_last}
@@ -78,3 +79,8 @@ pub returns-clause-absent : goal.returns-clause-absent
 returns-clause-absent g c is =
     absent_so (map string_bytes c.args.words.now) (outside (g.D.Depot.held c.args.depot.now) _ _ _ _ _ _) (outside (g.D.Depot.held c.once-ran.new.depot) _ _ _ _ _ _) c.once-ran.result.ending c.once-ran.ensures.ending
     (sym c.status.ensures ∙ is)
+
+pub returns-clause-complete : goal.returns-clause-complete
+returns-clause-complete g c files tells command all none =
+    completes (map string_bytes c.args.words.now) files (outside (g.D.Depot.held c.args.depot.now) _ _ _ _ _ _) (outside (g.D.Depot.held c.once-ran.new.depot) _ _ _ _ _ _) c.once-ran.result.ending c.status.result c.once-ran.result.schedules _ _ all tells command none
+    c.once-ran.ensures.ending c.status.ensures (returns-clause-outcome g c)
